@@ -1,7 +1,7 @@
 -- The marks of an image.
 use Rattle.std.specs.Prelude.{◌≡◌, ℕ, ◌+◌, ◌*◌, ◌/◌, ◌<◌, ◌≤◌, ◌==◌, ◌&&◌, nat_lt, min, Bool, List, All, length, slice_index}
 use Rattle.std.specs.List.{list_any}
-use Rattle.heap_image.specs.HeapImage.{HeapImage, IsValid, heap_words, region_words, region_of, start_of, end_of, is_word_of, live_words}
+use Rattle.heap_image.specs.HeapImage.{HeapImage, IsValid, heap_words, region_words, region_of, start_of, end_of, is_word_of, is_live_word, live_words}
 use Rattle.heap_image.specs.Bits.{has, room}
 
 -- words of bits, of which the first has the bits of the addresses from 64 * start on
@@ -38,6 +38,11 @@ module _ (image : HeapImage) where
     pub live_room : length live ≡ bit_words
     pub begin_bits : (a : ℕ) → has begins a ≡ list_any (λ b. b == a) objects
     pub live_bits : (a : ℕ) → has live a ≡ list_any (λ b. is_word_of image b a) objects
+
+  -- the bits of the words of the live objects
+  pub record AreLiveBits (live : List ℕ) : Type 0 where
+    pub room : length live ≡ bit_words
+    pub bits : (a : ℕ) → has live a ≡ is_live_word image a
 
   -- what the marks of this image keep
   pub record AreMarks (region_log : ℕ) (begins live : List ℕ) : Type 0 where

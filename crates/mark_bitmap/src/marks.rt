@@ -1,9 +1,10 @@
 //! The mark bitmaps of an image, and the queries on them.
 ghost use Rattle.std.specs.Prelude.{◌≡◌, ℕ, ◌+◌, ◌-◌, ◌*◌, ◌<◌, ◌≤◌, ◌==◌, IsTrue, IfOk, MatchOption, length};
 ghost use Rattle.std.specs.Int.{bit_at};
+ghost use Rattle.std.specs.Arc.{arc_value};
 ghost use Rattle.heap_image.specs.HeapImage.{IsValid, heap_words, is_live_word, is_dead_word, live_words, size_at};
 ghost use Rattle.heap_image.specs.Bits.{NoneFrom, IsFirstFrom, NoneBetween, IsFirstBetween};
-ghost use Rattle.mark_bitmap.specs.Marks.{AreBegins, AreBitsFrom, bit_words, continues_at, is_begin, is_end, block_words, block_count, block_live};
+ghost use Rattle.mark_bitmap.specs.Marks.{AreBegins, AreBitsFrom, AreLiveBits, bit_words, continues_at, is_begin, is_end, block_words, block_count, block_live};
 
 use crate::laws::marked_image_is_valid;
 use crate::mark_builder::MarkBuilder;
@@ -12,6 +13,7 @@ use heap_image::{Bits, Image};
 use std::alloc::{AllocError, Global};
 use std::marker::Model;
 use std::snapshot::Snapshot;
+use std::sync::Arc;
 use std::thread::Threads;
 
 /// The least number of words of bits that are worth a thread.
@@ -24,7 +26,7 @@ pub struct Marks {
     image: Snapshot<Image>,
     region_log: u32,
     begins: Bits,
-    live: Bits,
+    live: Arc<Bits, Global>,
 }
 
 impl Drop for Marks {
@@ -39,6 +41,7 @@ impl Drop for Marks {
 }
 
 impl Model for Marks {
+    ghost use Rattle.std.specs.Arc.{arc_value};
     ghost use Rattle.heap_image.specs.HeapImage.{HeapImage};
     ghost use Rattle.mark_bitmap.specs.Marks.{AreMarks};
 
@@ -46,7 +49,7 @@ impl Model for Marks {
 
     ghost view = { λ m. m.image.value };
 
-    ghost invariant = { λ m. AreMarks m.image.value m.region_log m.begins m.live };
+    ghost invariant = { λ m. AreMarks m.image.value m.region_log m.begins (arc_value m.live) };
 }
 
 impl Marks {
@@ -59,7 +62,7 @@ impl Marks {
         let begins = begin_bits(alloc, image)?;
         let mut live = no_bits(alloc, image)?;
         mark_part(image, &begins, 0, live.as_mut_slice());
-        Ok(Marks::with_bits(image, begins, live))
+        Marks::with_bits(alloc, image, begins, live)
     }
 
     /// Like [`of`](Marks::of), but in at most `workers` threads, the caller's included; 0 counts as 1.
@@ -95,22 +98,35 @@ impl Marks {
             share,
         };
         builder.mark(0, live.as_mut_slice());
-        Ok(Marks::with_bits(image, begins, live))
+        Marks::with_bits(alloc, image, begins, live)
     }
 
     /// The marks of an image with these bits.
-    fn with_bits(image: &Image, begins: Bits, live: Vec<u64>) -> Marks
+    fn with_bits(
+        alloc: Global,
+        image: &Image,
+        begins: Bits,
+        live: Vec<u64>,
+    ) -> Result<Marks, AllocError>
         requires begins { AreBegins image.now begins }
         requires room { length live.items ≡ bit_words image.now }
         requires live { AreBitsFrom (is_live_word image.now) 0 live.items }
-        ensures { result ≡ image.now }
+        ensures { IfOk result (λ marks. marks ≡ image.now) }
     {
-        Marks {
+        let live = Arc::new(alloc, Bits::from_words(live))?;
+        Ok(Marks {
             image: Snapshot::of(image),
             region_log: image.region_log(),
             begins,
-            live: Bits::from_words(live),
-        }
+            live,
+        })
+    }
+
+    /// The live bits, to be kept by one more owner. Takes no memory; the only error is that the owners are too many.
+    pub fn share_live(&self) -> Result<Arc<Bits, Global>, AllocError>
+        ensures { IfOk result (λ live. AreLiveBits self.now (arc_value live)) }
+    {
+        Arc::try_clone(&self.live)
     }
 
     /// Whether a live object begins at address `a`. This is false for an address past the heap.

@@ -32,5 +32,4 @@ pub mod OutOfRange
 pub mod Crossings
 pub mod Ranks
 pub mod BitRanks
-pub mod BitWords
 pub mod Compacted

@@ -1,9 +1,9 @@
 -- Redirection as one count.
-use Rattle.std.specs.Prelude.{◌≡◌, ℕ, ◌+◌, ◌-◌, ◌*◌, ◌<◌, Bool, ◌||◌, nat_lt, ◌==◌, List, length, map, count_by, slice_index}
+use Rattle.std.specs.Prelude.{◌≡◌, ℕ, ◌+◌, ◌-◌, ◌*◌, ◌<◌, Bool, ◌||◌, nat_lt, ◌==◌, List, map, count_by}
 use Rattle.std.specs.List.{range_with_len}
 use Rattle.std.specs.Int.{bit_at}
-use Rattle.heap_image.specs.HeapImage.{HeapImage, IsValid, is_live_word}
-use Rattle.mark_bitmap.specs.Marks.{bit_words}
+use Rattle.heap_image.specs.HeapImage.{HeapImage, IsValid, is_live_word, live_words}
+use Rattle.mark_bitmap.specs.Marks.{AreLiveBits, bit_words}
 use Rattle.summary.specs.NewAddresses.{prefix_end}
 
 -- the bits of the word say which of 64 consecutive numbers pass the test
@@ -19,9 +19,13 @@ module _ (image : HeapImage) where
   abbrev pub counted_below : ℕ → ℕ
   counted_below x = count_by is_counted (range_with_len 0 x)
 
-  -- what the redirections of this image keep: a bit for each number, and for each word of bits the count before it
-  pub record AreRedirections (bits ranks : List ℕ) : Type 0 where
+  -- 1 plus the dead words of the dense prefix
+  abbrev pub first_rank : ℕ
+  first_rank = prefix_end image - live_words image 0 (prefix_end image) + 1
+
+  -- what the redirections of this image keep: its live bits, and for each word of them the live words before it, counted
+  -- on from the first rank
+  pub record AreRedirections (live ranks : List ℕ) : Type 0 where
     pub valid : IsValid image
-    pub room : length bits ≡ bit_words image
-    pub set : (i : ℕ) → i < length bits → AreBits is_counted (64 * i) (slice_index bits i)
-    pub ranks_are : ranks ≡ map (λ i. counted_below (64 * i)) (range_with_len 0 (bit_words image))
+    pub are_live : AreLiveBits image live
+    pub ranks_are : ranks ≡ map (λ i. first_rank + live_words image 0 (64 * i)) (range_with_len 0 (bit_words image))

@@ -24,7 +24,7 @@ use crate::region_data::RegionData;
 use crate::region_table::RegionTable;
 use crate::report_text::report_of_table;
 use counting::{count_regions, count_regions_alone};
-use deferred::deferred_addresses;
+use deferred::deferred_places;
 use heap_image::{Fault, Image};
 use mark_bitmap::Marks;
 use raw_region::Region;
@@ -41,7 +41,8 @@ use std::thread::Threads;
 pub struct Plan {
     table: RegionTable,
     redirections: Redirections,
-    deferred: Vec<Option<u64>>,
+    /// For each region, the place in it where the new words of a deferred object begin, counted from 1; 0 for none.
+    deferred: Vec<u32>,
 }
 
 impl Drop for Plan {
@@ -122,7 +123,7 @@ impl Plan {
     {
         let table = RegionTable::of(alloc, image, counts)?;
         let redirections = Redirections::of(alloc, image, marks, table.prefix_end())?;
-        let deferred = deferred_addresses(alloc, image, marks, &redirections)?;
+        let deferred = deferred_places(alloc, image, marks, &redirections)?;
         Ok(Plan {
             table,
             redirections,
@@ -216,7 +217,10 @@ impl Plan {
         if d >= self.regions() {
             return None;
         }
-        self.deferred[d as usize]
+        match self.deferred[d as usize] {
+            0 => None,
+            place => Some(u64::from(d) * self.region_words() + u64::from(place) - 1),
+        }
     }
 
     /// How many regions are to be filled: those from 0 on that begin below the new top.

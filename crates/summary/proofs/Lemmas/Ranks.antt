@@ -1,5 +1,5 @@
 -- Redirection by one count, and how bits are counted.
-use Rattle.std.proofs.Common.{◌≡◌, ℕ, zero, suc, ◌+◌, ◌-◌, ◌*◌, ◌%◌, ◌^◌, ◌≤◌, ◌<◌, inl, inr, Bool, true, cond, eqb, List, [], length, get_or, refl, sym, ◌∙◌, ap, subst, arith, ltb, add-zero, zero-add, bit_and}
+use Rattle.std.proofs.Common.{◌≡◌, ℕ, zero, suc, ◌+◌, ◌-◌, ◌*◌, ◌/◌, ◌%◌, ◌^◌, ◌≤◌, ◌<◌, min, max, inl, inr, Bool, true, cond, eqb, List, [], length, get_or, refl, sym, ◌∙◌, ap, subst, arith, ltb, add-zero, zero-add, bit_and}
 use Rattle.std.specs.Prelude.{count_by}
 use Rattle.std.specs.List.{range_with_len, Contains, list_any}
 use Rattle.std.specs.Int.{bit_at}
@@ -9,18 +9,19 @@ use Rattle.std.proofs.lemmas.Nat.{mod-pow-add, ones_cat, and_mask, one_shl, mod_
 use Rattle.std.proofs.lemmas.Nat.Bits.{bit_at-lt}
 use Rattle.std.proofs.lemmas.List.{get_or_default}
 use Rattle.std.proofs.lemmas.List.Folds.{Any-from_list_any}
-use Rattle.std.proofs.Math.Nat.{mod-eq_of_lt, one-le-pow}
+use Rattle.std.proofs.Math.Nat.{one-le-pow}
 use Rattle.heap_image.specs.HeapImage.{HeapImage, HasLiveList, heap_words, is_live_word, live_words, is_null_or_live}
 use Rattle.summary.proofs.Lemmas.Spans.{count_by-cons}
 use Rattle.summary.specs.LiveObjects.{object_at}
 use Rattle.summary.specs.NewAddresses.{prefix_end, new_address}
 use Rattle.summary.specs.WordMoves.{slid}
 use Rattle.summary.specs.Compaction.{redirected}
-use Rattle.summary.specs.Redirections.{AreBits, is_counted, counted_below}
+use Rattle.mark_bitmap.specs.Marks.{AreLiveBits}
+use Rattle.summary.specs.Redirections.{AreBits, is_counted, counted_below, first_rank}
 use Rattle.summary.proofs.Lemmas.Addresses.{new_address-slid}
 use Rattle.summary.proofs.Lemmas.Blocks.{count_by-all}
 use Rattle.summary.proofs.Lemmas.Destinations.{count_by-parts}
-use Rattle.summary.proofs.Lemmas.Words.{count_by-range-le, live_below, is_live, slid-low, slid-high}
+use Rattle.summary.proofs.Lemmas.Words.{live_below, is_live, live_words-add, live_words-le, slid-low, slid-high}
 
 -- tests that agree at each place of two ranges pass equally often
 count_by-along : (p r : ℕ → Bool) (a b n : ℕ) → ((j : ℕ) → j < n → p (a + j) ≡ r (b + j)) → count_by p (range_with_len a n) ≡ count_by r (range_with_len b n)
@@ -88,30 +89,36 @@ module _ (image : HeapImage) where
   abbrev P : ℕ
   P = prefix_end image
 
-  pub counted-le : (x : ℕ) → counted_below image x ≤ x
-  counted-le x = count_by-range-le (is_counted image) 0 x
+  abbrev L : ℕ → ℕ → ℕ
+  L = live_words image
 
-  -- the count up to the start of a word and the bits below one of it
-  pub counted-within : (i k word : ℕ) → AreBits (is_counted image) (64 * i) word → k < 64
-      → counted_below image (64 * i) + count_ones (bit_and word (1 * 2 ^ k % 18446744073709551616 - 1)) ≡ counted_below image (64 * i + k)
-  counted-within i k word are l =
-      let parts = count_by-parts (is_counted image) 0 (64 * i) k in
-      let z : 0 + 64 * i ≡ 64 * i = zero-add (64 * i) in
-      let at : count_by (is_counted image) (range_with_len (0 + 64 * i) k) ≡ count_by (is_counted image) (range_with_len (64 * i) k) = ap (λ a. count_by (is_counted image) (range_with_len a k)) z in
-      let ones = masked-counted (is_counted image) (64 * i) word k are l in
+  -- the bits of 64 words
+  pub bits-of : (live : List ℕ) → AreLiveBits image live → (i : ℕ) → AreBits (is_live_word image) (64 * i) (get_or live i 0)
+  bits-of live are i j l =
+      let word : (64 * i + j) / 64 ≡ i = omega arith in
+      let bit : (64 * i + j) % 64 ≡ j = omega arith in
+      ap (λ k. eqb (bit_at (get_or live k 0) j) 1) (sym word)
+      ∙ ap (λ k. eqb (bit_at (get_or live ((64 * i + j) / 64) 0) k) 1) (sym bit)
+      ∙ are.bits (64 * i + j)
+
+  -- the live words up to the start of a word of bits, and those of the bits below one of it
+  pub live-within : (i k word : ℕ) → AreBits (is_live_word image) (64 * i) word → k < 64
+      → L 0 (64 * i) + count_ones (bit_and word (1 * 2 ^ k % 18446744073709551616 - 1)) ≡ L 0 (64 * i + k)
+  live-within i k word are l =
+      let cut = live_words-add image 0 (64 * i) (64 * i + k) (omega arith) (omega arith) in
+      let few : 64 * i + k - 64 * i ≡ k = omega arith in
+      let at : L (64 * i) (64 * i + k) ≡ count_by (is_live_word image) (range_with_len (64 * i) k) = ap (λ n. count_by (is_live_word image) (range_with_len (64 * i) n)) few in
+      let ones = masked-counted (is_live_word image) (64 * i) word k are l in
       omega arith
 
-  -- the count up to the start of the next word
-  pub counted-next : (i word : ℕ) → word < 2 ^ 64 → AreBits (is_counted image) (64 * i) word
-      → counted_below image (64 * i) + count_ones word ≡ counted_below image (64 * (i + 1))
-  counted-next i word fits are =
-      let parts = count_by-parts (is_counted image) 0 (64 * i) 64 in
-      let z : 0 + 64 * i ≡ 64 * i = zero-add (64 * i) in
-      let at : count_by (is_counted image) (range_with_len (0 + 64 * i) 64) ≡ count_by (is_counted image) (range_with_len (64 * i) 64) = ap (λ a. count_by (is_counted image) (range_with_len a 64)) z in
-      let ones = bits-counted (is_counted image) (64 * i) word 64 are (omega arith) in
-      let whole : count_ones (word % 2 ^ 64) ≡ count_ones word = ap count_ones (mod-eq_of_lt fits) in
-      let next : 64 * i + 64 ≡ 64 * (i + 1) = omega arith in
-      let long = ap (counted_below image) next in
+  -- the live words up to the start of the next word of bits
+  pub live-next : (i word : ℕ) → AreBits (is_live_word image) (64 * i) word
+      → L 0 (64 * i) + count_ones (word % 2 ^ 64) ≡ L 0 (64 * (i + 1))
+  live-next i word are =
+      let cut = live_words-add image 0 (64 * i) (64 * (i + 1)) (omega arith) (omega arith) in
+      let few : 64 * (i + 1) - 64 * i ≡ 64 = omega arith in
+      let at : L (64 * i) (64 * (i + 1)) ≡ count_by (is_live_word image) (range_with_len (64 * i) 64) = ap (λ n. count_by (is_live_word image) (range_with_len (64 * i) n)) few in
+      let ones = bits-counted (is_live_word image) (64 * i) word 64 are (omega arith) in
       omega arith
 
   -- the numbers counted below an address plus 1 are null and as many words as the new address
@@ -148,6 +155,31 @@ module _ (image : HeapImage) where
           let above = le-ltb (P + j) P (omega arith) in
           let some = ne_eqb (1 + P + j) 0 (λ e. omega arith) in
           rw some (rw at (rw above refl))
+
+module _ (image : HeapImage) where
+  -- the lesser of a reference and the live words below its address, counted on from the first rank
+  pub least-counted : (x a count : ℕ) → a ≡ max x 1 - 1 → count ≡ first_rank image + live_words image 0 a → min x count ≡ counted_below image x
+  least-counted x a count at is = elim (cases_lt 0 x) [
+    | inr none ↦ (
+        let null : counted_below image x ≡ 0 = ap (counted_below image) (let e : x ≡ 0 = omega arith in e) in
+        omega arith)
+    | inl some ↦
+        let e : x ≡ suc a = omega arith in
+        let to : counted_below image x ≡ suc (slid image a) = ap (counted_below image) e ∙ counted-slid image a in
+        let dead = live_words-le image 0 (prefix_end image) in
+        elim (cases_lt a (prefix_end image)) [
+          | inl low ↦
+              let cut = live_words-add image 0 a (prefix_end image) (omega arith) (omega arith) in
+              let few = live_words-le image a (prefix_end image) in
+              let stays = slid-low image a low in
+              omega arith
+          | inr high ↦
+              let cut = live_words-add image 0 (prefix_end image) a (omega arith) high in
+              let few = live_words-le image (prefix_end image) a in
+              let goes = slid-high image a high in
+              omega arith
+        ]
+  ]
 
 -- a listed address has an index
 index_of : (xs : List ℕ) (a : ℕ) → Contains xs a → (i : ℕ) × (i < length xs) × (get_or xs i 0 ≡ a)

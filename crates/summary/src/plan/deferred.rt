@@ -6,64 +6,64 @@ ghost use Rattle.heap_image.specs.HeapImage.{heap_words, region_words, region_co
 ghost use Rattle.summary.specs.LiveObjects.{object_count, object_at, ArePlacedBelow};
 ghost use Rattle.summary.specs.NewAddresses.{new_address};
 ghost use Rattle.summary.specs.RegionData.{deferred};
-ghost use Rattle.summary.specs.Plan.{AreDeferred};
+ghost use Rattle.summary.specs.Plan.{AreDeferred, place_in};
 
 use super::redirections::Redirections;
 use heap_image::Image;
 use mark_bitmap::Marks;
 use std::alloc::{AllocError, Global};
 
-/// For each region, the new address of the deferred object whose new words begin in it.
+/// For each region, the place in it where the new words of a deferred object begin, counted from 1; 0 for none.
 ///
 /// Makes one pass over the live list and the regions, which is too little work for a second thread to pay.
-pub(crate) fn deferred_addresses(
+pub(crate) fn deferred_places(
     alloc: Global,
     image: &Image,
     marks: &Marks,
     redirections: &Redirections,
-) -> Result<Vec<Option<u64>>, AllocError>
+) -> Result<Vec<u32>, AllocError>
     requires marks { marks.now ≡ image.now }
     requires redirections { redirections.now ≡ image.now }
-    ensures { IfOk result (λ addresses. AreDeferred image.now addresses.items) }
+    ensures { IfOk result (λ places. AreDeferred image.now places.items) }
 {
     let region_words = image.region_words();
-    let mut addresses = Vec::with_capacity(alloc, image.regions() as usize)?;
+    let mut places = Vec::with_capacity(alloc, image.regions() as usize)?;
     let mut placed = 0;
     for d in 0..image.regions() {
         let end = (u64::from(d) + 1) * region_words;
         placed = placed_below(image, redirections, end, placed);
-        addresses.push(deferred_in(image, marks, redirections, d, placed))?;
+        places.push(deferred_in(image, marks, redirections, d, placed))?;
     }
-    Ok(addresses)
+    Ok(places)
 }
 
-/// The new address of the deferred object that begins in region `d`, where `placed` objects have a new address below the
-/// region's end. Only the last of them can cross that end.
+/// The place in region `d`, counted from 1, where the new words of a deferred object begin, or 0 for none. `placed` objects
+/// have a new address below the region's end, and only the last of them can cross that end.
 fn deferred_in(
     image: &Image,
     marks: &Marks,
     redirections: &Redirections,
     d: u32,
     placed: usize,
-) -> Option<u64>
+) -> u32
     requires marks { marks.now ≡ image.now }
     requires redirections { redirections.now ≡ image.now }
     requires inside { d < region_count image.now }
     requires placed { ArePlacedBelow image.now (start_of image.now d + region_words image.now) placed }
-    ensures { result ≡ deferred image.now d }
+    ensures { result ≡ place_in image.now d (deferred image.now d) }
 {
     let region_words = image.region_words();
     let start = u64::from(d) * region_words;
     let end = start + region_words;
     if placed == 0 {
-        return None;
+        return 0;
     }
     let a = image.live()[placed - 1];
     let to = redirections.new_address(a);
     if start <= to && end < to + marks.size_at(a) {
-        Some(to)
+        (to - start + 1) as u32
     } else {
-        None
+        0
     }
 }
 

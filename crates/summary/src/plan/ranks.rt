@@ -2,15 +2,16 @@
 
 ghost use Rattle.std.specs.Prelude.{◌≡◌, ℕ, ◌<◌, ◌^◌, ◌%◌, ◌++◌, ◌∷◌, [], length, map, slice_index, IfOk};
 ghost use Rattle.std.specs.List.{range_with_len};
-ghost use Rattle.summary.specs.Ranks.{ones_before};
+ghost use Rattle.summary.specs.Ranks.{ones_from};
 
+use heap_image::Bits;
 use std::alloc::{AllocError, Global};
 use std::marker::Model;
 
 /// The number of words of a block: the most by which a rank exceeds that of its block fits 16 bits.
 const BLOCK: usize = 1_024;
 
-/// For each word of a list, the number of bits set in all words before it.
+/// For each word of a list, a first number plus the number of bits set in all words before it.
 ///
 /// A contract sees the list of these numbers.
 #[derive(Drop)]
@@ -33,24 +34,31 @@ impl Model for Ranks {
 }
 
 impl Ranks {
-    /// Counts the bits of these words. Allocates about 2 bytes for each.
-    pub(crate) fn of(alloc: Global, words: &[u64]) -> Result<Ranks, AllocError>
-        requires few { length words.now < 2 ^ 56 }
-        ensures { IfOk result (λ ranks. ranks ≡ map (ones_before words.now) (range_with_len 0 (length words.now))) }
+    /// Counts the bits of these words, on from a first number. Allocates about 2 bytes for each word.
+    pub(crate) fn of(
+        alloc: Global,
+        bits: &Bits,
+        words: usize,
+        first: u64,
+    ) -> Result<Ranks, AllocError>
+        requires words { words ≡ length bits.now }
+        requires few { words < 2 ^ 56 }
+        requires small { first < 2 ^ 62 }
+        ensures { IfOk result (λ ranks. ranks ≡ map (ones_from first bits.now) (range_with_len 0 words)) }
     {
-        let mut starts = Vec::with_capacity(alloc, words.len() / BLOCK + 1)?;
-        let mut steps = Vec::with_capacity(alloc, words.len())?;
-        let mut start = 0;
-        let mut rank = 0;
-        for i in 0..words.len() {
+        let mut starts = Vec::with_capacity(alloc, words / BLOCK + 1)?;
+        let mut steps = Vec::with_capacity(alloc, words)?;
+        let mut start = first;
+        let mut rank = first;
+        for i in 0..words {
             start = start_of(&mut starts, i, start, rank)?;
             steps.push((rank - start) as u16)?;
-            rank += u64::from(words[i].count_ones());
+            rank += u64::from(bits.word(i).count_ones());
         }
         Ok(Ranks { starts, steps })
     }
 
-    /// The number of bits set in all words before word `i`.
+    /// The first number plus the number of bits set in all words before word `i`.
     #[inline]
     pub(crate) fn get(&self, i: usize) -> u64
         requires { i < length self.now }

@@ -1,40 +1,43 @@
-//! `Redirections`: the new value of each reference, by one count of bits.
+//! `Redirections`: the new value of each reference, by one count of live words.
 
-ghost use Rattle.std.specs.Prelude.{◌≡◌, ℕ, ◌+◌, ◌*◌, ◌<◌, ◌≤◌, ◌==◌, nat_lt, map, All, IfOk, IsTrue, Contains};
-ghost use Rattle.std.specs.Int.{bit_at};
+ghost use Rattle.std.specs.Prelude.{◌≡◌, ◌≤◌, map, All, IfOk, IsTrue, Contains};
 ghost use Rattle.heap_image.specs.HeapImage.{heap_words, is_null_or_live};
 ghost use Rattle.summary.specs.NewAddresses.{prefix_end, new_address};
 ghost use Rattle.summary.specs.Compaction.{redirected};
-ghost use Rattle.summary.specs.Redirections.{AreBits, is_counted, counted_below};
+ghost use Rattle.summary.specs.Redirections.{counted_below};
 
 use crate::plan::ranks::Ranks;
-use heap_image::Image;
+use heap_image::{Bits, Image};
 use mark_bitmap::Marks;
 use std::alloc::{AllocError, Global};
 use std::marker::Model;
 use std::snapshot::Snapshot;
+use std::sync::Arc;
 
 /// The new value of each reference of an image.
 ///
-/// Bit 0 stands for null and bit `a + 1` for address `a`, as in references. The bits of null, of all words below the
-/// prefix end and of all other live words are set. So the new value of a reference is the number of bits set below its
-/// own; null, an object of the prefix and an object that slides need no separate cases.
+/// A reference is 1 plus an address, or 0 for null. One that slides becomes the number of live words below its address,
+/// plus the dead words of the dense prefix, plus 1. That number is never above the reference. Null and a reference into the
+/// dense prefix stay, and for them it is never below. So the new value is the lesser of the two, and no case is told apart.
 ///
 /// A contract sees the image that the redirections were made of, as it was then.
 pub(crate) struct Redirections {
     image: Snapshot<Image>,
-    bits: Vec<u64>,
-    /// For each word of `bits`, the number of bits set in all words before it.
+    /// The live bits, which the marks keep, too.
+    live: Arc<Bits, Global>,
+    /// For each word of `live`, 1 plus the dead words of the dense prefix, plus the number of bits set in all words
+    /// before it.
     ranks: Ranks,
 }
 
 impl Drop for Redirections {
     fn drop(self) {
-        let Self { image, bits, ranks } = self;
+        let Self { image, live, ranks } = self;
     }
 }
 
 impl Model for Redirections {
+    ghost use Rattle.std.specs.Arc.{arc_value};
     ghost use Rattle.heap_image.specs.HeapImage.{HeapImage};
     ghost use Rattle.summary.specs.Redirections.{AreRedirections};
 
@@ -42,13 +45,13 @@ impl Model for Redirections {
 
     ghost view = { λ r. r.image.value };
 
-    ghost invariant = { λ r. AreRedirections r.image.value r.bits.items r.ranks };
+    ghost invariant = { λ r. AreRedirections r.image.value (arc_value r.live) r.ranks };
 }
 
 impl Redirections {
     /// Makes the redirections of an image with these marks, whose dense prefix ends at `prefix`.
     ///
-    /// Allocates 10 bytes for each 64 words of the heap.
+    /// Allocates about 2 bytes for each 64 words of the heap.
     pub(crate) fn of(
         alloc: Global,
         image: &Image,
@@ -59,19 +62,13 @@ impl Redirections {
         requires prefix { prefix ≡ prefix_end image.now }
         ensures { IfOk result (λ redirections. redirections ≡ image.now) }
     {
-        let words = image.len() / 64 + 1;
-        let mut bits = Vec::with_capacity(alloc, words as usize)?;
-        let mut carried = 1;
-        for i in 0..words {
-            let shifted = bits_after(marks, prefix, i);
-            let word = with_first(shifted, carried);
-            carried = shifted >> 63;
-            bits.push(word)?;
-        }
-        let ranks = Ranks::of(alloc, bits.as_slice())?;
+        let words = (image.len() / 64 + 1) as usize;
+        let dead = prefix - marks.live_words(0, prefix);
+        let live = marks.share_live()?;
+        let ranks = Ranks::of(alloc, &live, words, dead + 1)?;
         Ok(Redirections {
             image: Snapshot::of(image),
-            bits,
+            live,
             ranks,
         })
     }
@@ -107,43 +104,16 @@ impl Redirections {
         }
     }
 
-    /// The number of bits set below bit `x`.
+    /// The new value of a reference, which may lead to any live word or, into the dense prefix, to any word at all.
     #[inline]
-    fn rank(&self, x: u64) -> u64
-        requires { x ≤ heap_words self.now }
-        ensures { result ≡ counted_below self.now x }
+    fn rank(&self, reference: u64) -> u64
+        requires { reference ≤ heap_words self.now }
+        ensures { result ≡ counted_below self.now reference }
     {
-        let i = (x / 64) as usize;
-        let below = self.bits[i] & ((1 << (x % 64)) - 1);
-        self.ranks.get(i) + u64::from(below.count_ones())
+        let a = reference.max(1) - 1;
+        let i = (a / 64) as usize;
+        let below = self.live.word(i) & ((1 << (a % 64)) - 1);
+        let count = self.ranks.get(i) + u64::from(below.count_ones());
+        reference.min(count)
     }
-}
-
-/// The 64 bits after the first one of word `i`: those of the addresses from `64 * i` on.
-#[inline]
-fn bits_after(marks: &Marks, prefix: u64, i: u64) -> u64
-    requires prefix { prefix ≡ prefix_end marks.now }
-    requires inside { 64 * i ≤ heap_words marks.now }
-    ensures { AreBits (is_counted marks.now) (64 * i + 1) result }
-{
-    let live = marks.live_bits(i);
-    low_bits(prefix.saturating_sub(64 * i)) | live
-}
-
-/// A word with its lowest `n` bits set, or all 64 if `n` is larger.
-#[inline]
-fn low_bits(n: u64) -> u64
-    ensures { (j : ℕ) → j < 64 → (bit_at result j == 1) ≡ nat_lt j n }
-{
-    if n < 64 { (1 << n) - 1 } else { u64::MAX }
-}
-
-/// The bits shifted up by one, with a new lowest bit. The highest bit is lost.
-#[inline]
-fn with_first(bits: u64, first: u64) -> u64
-    requires { first ≤ 1 }
-    ensures first { bit_at result 0 ≡ first }
-    ensures others { (j : ℕ) → j < 63 → bit_at result (j + 1) ≡ bit_at bits j }
-{
-    bits << 1 | first
 }

@@ -1,4 +1,5 @@
-use Rattle.std.proofs.Common.{arith}
+use Rattle.std.proofs.Common.{◌≡◌, ◌∙◌, arith}
+use Rattle.std.specs.Arc.{arc_value}
 use Rattle.heap_image.specs.HeapImage.{HeapImage, IsValid, is_live_word}
 use Rattle.mark_bitmap.specs.Marks.{AreMarks}
 use Rattle.mark_bitmap.proofs.Lemmas.PartBits.{all_bits}
@@ -19,4 +20,5 @@ invariant_of-result c =
         live_bits = all_bits (is_live_word image) c.args.live.items c.requires.live (λ k h. let low = live-inside image valid k h in omega (arith, c.requires.room));
       };
     } in
-    rw (c.of.ensures, c.from_words.ensures) marks
+    let same : arc_value c.in_ok-live.live ≡ c.args.live.items = c.in_ok-live.ensures.ok ∙ c.from_words.ensures in
+    rw (c.of.ensures, same) marks

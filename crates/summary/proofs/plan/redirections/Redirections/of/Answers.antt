@@ -1,101 +1,75 @@
-use Rattle.std.proofs.Common.{◌≡◌, ℕ, zero, suc, ◌+◌, ◌-◌, ◌*◌, ◌^◌, ◌≤◌, ◌<◌, inl, inr, List, map, [], ◌∷◌, ◌++◌, length, get_or, refl, sym, ◌∙◌, ap, subst, arith}
+use Rattle.std.proofs.Common.{◌≡◌, ℕ, zero, suc, ◌+◌, ◌-◌, ◌*◌, ◌/◌, ◌≤◌, List, map, length, get_or, sym, ◌∙◌, ap, subst, refl, arith}
+use Rattle.std.specs.Arc.{arc_value}
 use Rattle.std.specs.List.{range_with_len}
-use Rattle.std.proofs.lemmas.Bool.{cases_lt}
-use Rattle.std.proofs.lemmas.List.{length-append, get_or_append_left, get_or-append_right}
-use Rattle.heap_image.specs.HeapImage.{HeapImage}
-use Rattle.mark_bitmap.specs.Marks.{bit_words}
-use Rattle.summary.specs.Ranks.{ones_before}
-use Rattle.summary.specs.Redirections.{AreBits, AreRedirections, is_counted, counted_below}
-use Rattle.summary.proofs.Lemmas.BitRanks.{ones-next, map-along}
-use Rattle.summary.proofs.Lemmas.BitWords.{moved-bits, last-bit, words-more}
-use Rattle.summary.proofs.Lemmas.Ranks.{counted-next}
+use Rattle.heap_image.specs.HeapImage.{HeapImage, heap_words, live_words}
+use Rattle.mark_bitmap.specs.Marks.{AreLiveBits, bit_words}
+use Rattle.summary.specs.NewAddresses.{prefix_end}
+use Rattle.summary.specs.Ranks.{ones_before, ones_from}
+use Rattle.summary.specs.Redirections.{AreRedirections, first_rank}
+use Rattle.summary.proofs.Lemmas.Addresses.{prefix_end-le}
+use Rattle.summary.proofs.Lemmas.BitRanks.{map-along, ones-next}
+use Rattle.summary.proofs.Lemmas.Ranks.{bits-of, live-next}
+use Rattle.summary.proofs.Lemmas.Words.{live_words-le}
 use Rattle.summary.proofs.plan.redirections.Redirections.of.Goals as goal
-use Rattle.summary.proofs.plan.redirections.Redirections.of.Goals.{After-with_first-word}
 
--- once a word of bits is made
-module _ (c : After-with_first-word) where
-  abbrev image : HeapImage
-  image = c.args.image.now
-
-  abbrev i : ℕ
-  i = c.loop-i.i
-
-  behind : AreBits (is_counted image) (64 * i + 1) c.bits_after-shifted.result
-  behind = subst (λ (m : HeapImage). AreBits (is_counted m) (64 * i + 1) c.bits_after-shifted.result) c.requires.marks c.bits_after-shifted.ensures
-
-  word : AreBits (is_counted image) (64 * i) c.with_first-word.result
-  word = moved-bits (is_counted image) i c.bits_after-shifted.result behind c.loop-i.carried c.with_first-word.result c.loop-i.invariant.first c.with_first-word.ensures.first c.with_first-word.ensures.others
-
--- one more word fits 64 bits
-fit-more : (words : List ℕ) (n w : ℕ) → length words ≡ n → ((k : ℕ) → k < n → get_or words k 0 < 2 ^ 64) → w < 2 ^ 64
-    → (k : ℕ) → k < n + 1 → get_or (words ++ w ∷ []) k 0 < 2 ^ 64
-fit-more words n w long fit new k l = elim (cases_lt k n) [
-  | inl below ↦ (let at = get_or_append_left words (w ∷ []) 0 k (omega arith) in let old = fit k below in omega arith)
-  | inr here ↦
-      let z : k - n ≡ 0 = omega arith in
-      let at : get_or (words ++ w ∷ []) k 0 ≡ w = get_or-append_right words (w ∷ []) n k 0 long (omega arith) ∙ ap (λ j. get_or (w ∷ []) j 0) z in
-      omega arith
-]
-
-pub loop-i-preserved : goal.loop-i-preserved
-loop-i-preserved c =
-    let made = (goal.at.loop-i-preserved c).After-with_first-word in
-    let m : HeapImage = c.args.image.now in
-    let n : ℕ = c.loop-i.i in
-    let w : ℕ = c.with_first-word.result in
-    let pushed : c.push.new.self.items ≡ c.loop-i.bits.items ++ w ∷ [] = c.in_ok-push.ensures.items in
-    let last = last-bit (is_counted m) n c.bits_after-shifted.result (behind made) c.bits_after-shifted.type_inv in
-    let long = length-append c.loop-i.bits.items (w ∷ []) in
-    record {
-      made = ap length pushed ∙ long ∙ ap (λ k. k + 1) c.loop-i.invariant.made;
-      fit = subst (λ (xs : List ℕ). (k : ℕ) → k < n + 1 → get_or xs k 0 < 2 ^ 64) (sym pushed)
-          (fit-more c.loop-i.bits.items n w c.loop-i.invariant.made c.loop-i.invariant.fit c.with_first-word.type_inv);
-      set = subst (λ (xs : List ℕ). (k : ℕ) → k < n + 1 → AreBits (is_counted m) (64 * k) (get_or xs k 0)) (sym pushed)
-          (words-more (is_counted m) c.loop-i.bits.items n w c.loop-i.invariant.made c.loop-i.invariant.set (word made));
-      carried = last.0;
-      first = last.1;
-    }
-
--- the bits set before a word are the numbers counted below its first
-counted : (m : HeapImage) (bits : List ℕ) → ((k : ℕ) → k < length bits → get_or bits k 0 < 2 ^ 64)
-    → ((k : ℕ) → k < length bits → AreBits (is_counted m) (64 * k) (get_or bits k 0))
-    → (k : ℕ) → k ≤ length bits → ones_before bits k ≡ counted_below m (64 * k)
-counted m bits fit set zero l = refl
-counted m bits fit set (suc k) l =
-    let before = counted m bits fit set k (omega arith) in
-    let ones = ones-next bits k (omega arith) in
-    let numbers = counted-next m k (get_or bits k 0) (fit k (omega arith)) (set k (omega arith)) in
-    let next : suc k ≡ k + 1 = omega arith in
-    let here = ap (ones_before bits) next in
-    let there = ap (λ j. counted_below m (64 * j)) next in
+pub live_words-requires-clause-inside : goal.live_words-requires-clause-inside
+live_words-requires-clause-inside c =
+    let inside = prefix_end-le c.args.image.now c.len.ensures.valid.live_list in
+    let prefix = c.requires.prefix in
+    let same = ap heap_words c.requires.marks in
     omega arith
 
-pub of-requires : goal.of-requires
-of-requires c = record {
-  few = (let long = ap length c.as_slice.ensures.value in
-      let made = c.loop-i.invariant.made in
-      let all = c.loop-i.auto.i-end in
-      let words = c.len.ensures.value in
-      let limits = c.len.ensures.valid.limits.few_words in
-      omega arith);
-}
+pub overflow_sub-dead : goal.overflow_sub-dead
+overflow_sub-dead c =
+    let few = live_words-le c.args.marks.now 0 c.args.prefix in
+    let live = c.live_words.ensures in
+    omega arith
+
+pub overflow_add-dead : goal.overflow_add-dead
+overflow_add-dead c =
+    let inside = prefix_end-le c.args.image.now c.len.ensures.valid.live_list in
+    let prefix = c.requires.prefix in
+    let limits = c.len.ensures.valid.limits.few_words in
+    omega arith
+
+pub of-requires-clause-small : goal.of-requires-clause-small
+of-requires-clause-small c =
+    let inside = prefix_end-le c.args.image.now c.len.ensures.valid.live_list in
+    let prefix = c.requires.prefix in
+    let limits = c.len.ensures.valid.limits.few_words in
+    omega arith
+
+-- the bits set before a word are those of the live words below its first
+counted : (m : HeapImage) (live : List ℕ) → AreLiveBits m live → (k : ℕ) → k ≤ length live → ones_before live k ≡ live_words m 0 (64 * k)
+counted m live are zero l = refl
+counted m live are (suc k) l =
+    let before = counted m live are k (omega arith) in
+    let ones = ones-next live k (omega arith) in
+    let words = live-next m k (get_or live k 0) (bits-of m live are k) in
+    let next : suc k ≡ k + 1 = omega arith in
+    let here = ap (ones_before live) next in
+    let there = ap (λ j. live_words m 0 (64 * j)) next in
+    omega arith
 
 pub invariant_of-result : goal.invariant_of-result
 invariant_of-result c =
     let m : HeapImage = c.args.image.now in
-    let bits : List ℕ = c.loop-i.bits.items in
-    let end : c.loop-i.i ≡ bit_words m = (let words = c.len.ensures.value in let test = c.loop-i-test.false in let all = c.loop-i.auto.i-end in omega arith) in
-    let made = c.loop-i.invariant.made in
-    let room : length bits ≡ bit_words m = made ∙ end in
-    let fit : (k : ℕ) → k < length bits → get_or bits k 0 < 2 ^ 64 = λ k l. c.loop-i.invariant.fit k (omega arith) in
-    let set : (k : ℕ) → k < length bits → AreBits (is_counted m) (64 * k) (get_or bits k 0) = λ k l. c.loop-i.invariant.set k (omega arith) in
+    let live : List ℕ = arc_value c.in_ok-live.live in
+    let first : ℕ = c.args.prefix - c.live_words.result + 1 in
+    let are : AreLiveBits m live = subst (λ (i : HeapImage). AreLiveBits i live) c.requires.marks c.in_ok-live.ensures in
+    let words : c.len.result / 64 + 1 ≡ bit_words m = ap (λ n. n / 64 + 1) c.len.ensures.value in
+    let before : c.live_words.result ≡ live_words m 0 (prefix_end m)
+    = c.live_words.ensures ∙ ap (λ n. live_words c.args.marks.now 0 n) c.requires.prefix ∙ ap (λ (i : HeapImage). live_words i 0 (prefix_end m)) c.requires.marks in
+    let prefix = c.requires.prefix in
+    let begins : first ≡ first_rank m = omega arith in
+    let long = are.room in
     let is : c.of-2.result.value ≡ m = c.of-2.ensures in
-    subst (λ (g : HeapImage). AreRedirections g bits c.in_ok-ranks.ranks) (sym is) (record {
+    subst (λ (g : HeapImage). AreRedirections g live c.in_ok-ranks.ranks) (sym is) (record {
       valid = c.len.ensures.valid;
-      room = room;
-      set = set;
+      are_live = are;
       ranks_are = c.in_ok-ranks.ensures
-          ∙ ap (λ (s : List ℕ). map (ones_before s) (range_with_len 0 (length s))) c.as_slice.ensures.value
-          ∙ map-along (ones_before bits) (λ k. counted_below m (64 * k)) (length bits) (λ k l. counted m bits fit set k (omega arith))
-          ∙ ap (λ n. map (λ k. counted_below m (64 * k)) (range_with_len 0 n)) room;
+          ∙ ap (λ (s : List ℕ). map (ones_from first s) (range_with_len 0 (c.len.result / 64 + 1))) c.deref.ensures
+          ∙ ap (λ n. map (ones_from first live) (range_with_len 0 n)) words
+          ∙ map-along (ones_from first live) (λ k. first_rank m + live_words m 0 (64 * k)) (bit_words m)
+          (λ k l. let same = counted m live are k (omega arith) in omega arith);
     })

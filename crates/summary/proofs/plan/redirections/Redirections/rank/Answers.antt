@@ -1,62 +1,60 @@
-use Rattle.std.proofs.Common.{◌≡◌, ℕ, ◌+◌, ◌*◌, ◌/◌, ◌%◌, ◌≤◌, ◌<◌, List, length, get_or, sym, ◌∙◌, ap, subst, arith}
-use Rattle.std.proofs.lemmas.Grind.{get_or_default_zero}
+use Rattle.std.proofs.Common.{◌≡◌, ℕ, ◌+◌, ◌-◌, ◌*◌, ◌/◌, ◌%◌, ◌≤◌, ◌<◌, List, length, get_or, sym, ◌∙◌, ap, subst, arith}
+use Rattle.std.specs.Arc.{arc_value}
 use Rattle.std.proofs.lemmas.List.FromFn.{length-map-range_with_len, get_or-map-range_with_len}
-use Rattle.heap_image.specs.HeapImage.{HeapImage, heap_words}
+use Rattle.heap_image.specs.HeapImage.{HeapImage, heap_words, is_live_word, live_words}
 use Rattle.mark_bitmap.specs.Marks.{bit_words}
-use Rattle.summary.specs.Redirections.{AreBits, AreRedirections, is_counted, counted_below}
-use Rattle.summary.proofs.Lemmas.Ranks.{counted-le, counted-within}
+use Rattle.summary.specs.Redirections.{AreBits, AreRedirections, counted_below, first_rank}
+use Rattle.summary.proofs.Lemmas.Ranks.{bits-of, least-counted, live-within}
+use Rattle.summary.proofs.Lemmas.Addresses.{prefix_end-le}
+use Rattle.summary.proofs.Lemmas.Words.{live_words-le}
 use Rattle.summary.proofs.plan.redirections.Redirections.rank.Goals as goal
-
-pub index-requires : goal.index-requires
-index-requires c =
-    let image : HeapImage = c.self.inside.image.value in
-    let inside : c.args.x ≤ heap_words image = subst (λ m. c.args.x ≤ heap_words m) (sym c.self.view_is) c.requires in
-    let long = c.self.invariant.room in
-    omega arith
+use Rattle.summary.proofs.plan.redirections.Redirections.rank.Goals.{After-from}
 
 pub get-requires : goal.get-requires
 get-requires c =
     let image : HeapImage = c.self.inside.image.value in
-    let inside : c.args.x ≤ heap_words image = subst (λ m. c.args.x ≤ heap_words m) (sym c.self.view_is) c.requires in
-    let long = ap length c.self.invariant.ranks_are ∙ length-map-range_with_len (λ k. counted_below image (64 * k)) 0 (bit_words image) in
+    let inside : c.args.reference ≤ heap_words image = subst (λ m. c.args.reference ≤ heap_words m) (sym c.self.view_is) c.requires in
+    let a = c.max-a.ensures in
+    let long = ap length c.self.invariant.ranks_are ∙ length-map-range_with_len (λ k. first_rank image + live_words image 0 (64 * k)) 0 (bit_words image) in
     omega arith
 
 -- the rank of a word of bits
-rank_at : (image : HeapImage) (bits ranks : List ℕ) (i found : ℕ) → AreRedirections image bits ranks → i < bit_words image → found ≡ get_or ranks i 0 → found ≡ counted_below image (64 * i)
-rank_at image bits ranks i found are inside is =
-    is ∙ ap (λ l. get_or l i 0) are.ranks_are ∙ get_or-map-range_with_len (λ k. counted_below image (64 * k)) 0 (bit_words image) i i 0 inside (omega arith)
+rank_at : (image : HeapImage) (live ranks : List ℕ) (i found : ℕ) → AreRedirections image live ranks → i < bit_words image → found ≡ get_or ranks i 0
+    → found ≡ first_rank image + live_words image 0 (64 * i)
+rank_at image live ranks i found are inside is =
+    is ∙ ap (λ l. get_or l i 0) are.ranks_are ∙ get_or-map-range_with_len (λ k. first_rank image + live_words image 0 (64 * k)) 0 (bit_words image) i i 0 inside (omega arith)
 
-pub overflow_add-result : goal.overflow_add-result
-overflow_add-result c =
+-- the live words below an address, counted on from the first rank
+counted : (c : After-from) → c.get.result + c.from.result ≡ first_rank c.self.inside.image.value + live_words c.self.inside.image.value 0 (c.max-a.result - 1)
+counted c =
     let image : HeapImage = c.self.inside.image.value in
-    let x : ℕ = c.args.x in
-    let i : ℕ = x / 64 in
-    let inside : x ≤ heap_words image = subst (λ m. x ≤ heap_words m) (sym c.self.view_is) c.requires in
-    let long = c.self.invariant.room in
-    let word : c.index.result.now ≡ get_or c.self.inside.bits.items i 0 = c.index.ensures ∙ get_or_default_zero c.self.inside.bits.items i c.index.result.now (omega arith) in
-    let are : AreBits (is_counted image) (64 * i) c.index.result.now = subst (AreBits (is_counted image) (64 * i)) (sym word) (c.self.invariant.set i (omega arith)) in
-    let rank = rank_at image c.self.inside.bits.items c.self.inside.ranks i c.get.result c.self.invariant (omega arith) c.get.ensures in
-    let within = counted-within image i (x % 64) c.index.result.now are (omega arith) in
-    let at : 64 * i + x % 64 ≡ x = omega arith in
+    let a : ℕ = c.max-a.result - 1 in
+    let i : ℕ = a / 64 in
+    let inside : c.args.reference ≤ heap_words image = subst (λ m. c.args.reference ≤ heap_words m) (sym c.self.view_is) c.requires in
+    let least = c.max-a.ensures in
+    let word : c.word.result ≡ get_or (arc_value c.self.inside.live) i 0 = c.word.ensures ∙ ap (λ l. get_or l i 0) c.deref.ensures in
+    let are : AreBits (is_live_word image) (64 * i) c.word.result = subst (AreBits (is_live_word image) (64 * i)) (sym word) (bits-of image (arc_value c.self.inside.live) c.self.invariant.are_live i) in
+    let rank = rank_at image (arc_value c.self.inside.live) c.self.inside.ranks i c.get.result c.self.invariant (omega arith) c.get.ensures in
+    let within = live-within image i (a % 64) c.word.result are (omega arith) in
+    let at : 64 * i + a % 64 ≡ a = omega arith in
     let ones = c.from.ensures in
-    let all = ap (counted_below image) at in
-    let few = counted-le image x in
+    let all = ap (live_words image 0) at in
+    omega arith
+
+pub overflow_add-count : goal.overflow_add-count
+overflow_add-count c =
+    let image : HeapImage = c.self.inside.image.value in
+    let inside : c.args.reference ≤ heap_words image = subst (λ m. c.args.reference ≤ heap_words m) (sym c.self.view_is) c.requires in
+    let least = c.max-a.ensures in
+    let count = counted ((goal.at.overflow_add-count c).After-from) in
+    let few = live_words-le image 0 (c.max-a.result - 1) in
+    let prefix = prefix_end-le image c.self.invariant.valid.live_list in
     let words = c.self.invariant.valid.limits.few_words in
     omega arith
 
 pub returns : goal.returns
 returns c =
     let image : HeapImage = c.self.inside.image.value in
-    let x : ℕ = c.args.x in
-    let i : ℕ = x / 64 in
-    let inside : x ≤ heap_words image = subst (λ m. x ≤ heap_words m) (sym c.self.view_is) c.requires in
-    let long = c.self.invariant.room in
-    let word : c.index.result.now ≡ get_or c.self.inside.bits.items i 0 = c.index.ensures ∙ get_or_default_zero c.self.inside.bits.items i c.index.result.now (omega arith) in
-    let are : AreBits (is_counted image) (64 * i) c.index.result.now = subst (AreBits (is_counted image) (64 * i)) (sym word) (c.self.invariant.set i (omega arith)) in
-    let rank = rank_at image c.self.inside.bits.items c.self.inside.ranks i c.get.result c.self.invariant (omega arith) c.get.ensures in
-    let within = counted-within image i (x % 64) c.index.result.now are (omega arith) in
-    let at : 64 * i + x % 64 ≡ x = omega arith in
-    let ones = c.from.ensures in
-    let all = ap (counted_below image) at in
-    let same : counted_below image x ≡ counted_below c.args.self.now x = ap (λ m. counted_below m x) c.self.view_is in
-    omega arith
+    let count = counted ((goal.at.returns c).After-from) in
+    let least = least-counted image c.args.reference (c.max-a.result - 1) (c.get.result + c.from.result) (ap (λ n. n - 1) c.max-a.ensures) count in
+    c.min.ensures ∙ least ∙ ap (λ m. counted_below m c.args.reference) c.self.view_is
