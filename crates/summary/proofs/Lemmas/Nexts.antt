@@ -1,5 +1,5 @@
 -- The next free address stays within the heap.
-use Rattle.std.proofs.Common.{ℕ, zero, suc, ◌+◌, ◌≤◌, ◌<◌, inl, inr, max, Bool, List, [], ◌∷◌, length, get_or, take, sym, subst, arith, ltb}
+use Rattle.std.proofs.Common.{◌≡◌, ℕ, zero, suc, ◌+◌, ◌≤◌, ◌<◌, inl, inr, max, Bool, List, [], ◌∷◌, length, get_or, take, sym, subst, arith, ltb}
 use Rattle.std.proofs.lemmas.Bool.{cases_lt, cond-true, cond-false, cond_both, le-ltb, lt-ltb}
 use Rattle.std.specs.Prelude.{filter, fold}
 use Rattle.heap_image.specs.HeapImage.{HeapImage, HasLiveList, heap_words, end_of, size_at}
