@@ -19,7 +19,7 @@ impl<'a> ImageAndSchedule<'a> {
     pub fn open<H: Files + AllocGlobal>(
         self,
         host: &H,
-    ) -> Result<Opened<'a, H::File>, Trouble<'a>> {
+    ) -> Result<Opened<'a, H::File>, Trouble> {
         let image = FileWord::new(Role::Image, self.image);
         let schedule = FileWord::new(Role::Schedule, self.schedule);
         let (image, schedule) = two_different_inputs(host, image, schedule)?;
