@@ -70,7 +70,7 @@ struct Named<'a> {
 }
 
 /// Rejects two equal names, but for IMAGE and OUT with `--atomic`.
-fn names_must_differ<'a>(alloc: Global, named: Named<'a>, atomic: bool) -> Result<(), Trouble> {
+fn names_must_differ(alloc: Global, named: Named<'_>, atomic: bool) -> Result<(), Trouble> {
     if !atomic {
         output_must_differ(alloc, named.image, named.out)?;
     }

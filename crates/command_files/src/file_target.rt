@@ -170,9 +170,9 @@ impl<'a, F: OpenFile + Drop> FileTarget<'a, F> {
 }
 
 /// Opens a file to write it in place, and makes it if it isn't there.
-fn open_in_place<'a, H: Files + AllocGlobal>(
+fn open_in_place<H: Files + AllocGlobal>(
     host: &H,
-    word: FileWord<'a>,
+    word: FileWord<'_>,
     is_private: bool,
 ) -> Result<Found<H::File>, Trouble> {
     let opened = open(host, word.path_to_write(), is_private);
@@ -249,9 +249,9 @@ fn writable<H: Files>(host: &H, name: &str) -> io::Result<Metadata> {
 }
 
 /// The place of a new file, and the file that it replaces, if there is one.
-fn find_place<'a, H: Files + AllocGlobal>(
+fn find_place<H: Files + AllocGlobal>(
     host: &H,
-    word: FileWord<'a>,
+    word: FileWord<'_>,
 ) -> Result<Found<H::File>, Trouble> {
     match fs::symlink_metadata(host, word.name) {
         Ok(named) => find_replaced(host, word, named.is_symlink()),
@@ -276,9 +276,9 @@ fn may_be_made(name: &str) -> bool {
 }
 
 /// A file that is to be replaced, and its place. It must be a regular file.
-fn find_replaced<'a, H: Files + AllocGlobal>(
+fn find_replaced<H: Files + AllocGlobal>(
     host: &H,
-    word: FileWord<'a>,
+    word: FileWord<'_>,
     is_link: bool,
 ) -> Result<Found<H::File>, Trouble> {
     must_be_regular(host, word)?;
@@ -289,10 +289,7 @@ fn find_replaced<'a, H: Files + AllocGlobal>(
 }
 
 /// Refuses what isn't a regular file.
-fn must_be_regular<'a, H: Files + AllocGlobal>(
-    host: &H,
-    word: FileWord<'a>,
-) -> Result<(), Trouble> {
+fn must_be_regular<H: Files + AllocGlobal>(host: &H, word: FileWord<'_>) -> Result<(), Trouble> {
     match fs::metadata(host, word.name) {
         Ok(found) if found.is_file() => Ok(()),
         Err(error) if error.kind() != ErrorKind::NotFound => {
@@ -303,9 +300,9 @@ fn must_be_regular<'a, H: Files + AllocGlobal>(
 }
 
 /// The place of a file: its name, or where a link of this name leads.
-fn place_of<'a, H: Files + AllocGlobal>(
+fn place_of<H: Files + AllocGlobal>(
     host: &H,
-    word: FileWord<'a>,
+    word: FileWord<'_>,
     is_link: bool,
 ) -> Result<PathBuf, Trouble> {
     if !is_link {
@@ -332,7 +329,7 @@ fn is_one_place<'a, H: Files>(
 }
 
 /// Which file of the system the folder of a file is.
-fn folder_id<'a, H: Files>(host: &H, word: FileWord<'a>) -> Result<FileId, Trouble> {
+fn folder_id<H: Files>(host: &H, word: FileWord<'_>) -> Result<FileId, Trouble> {
     let folder = fs::metadata(host, folder_of(Path::new(word.name)));
     Ok(FileId::of(&on_file(word, SystemCall::Stat, folder)?))
 }

@@ -138,11 +138,7 @@ pub fn reject_same_file<'a, H: Files + AllocGlobal>(
 }
 
 /// Refuses two files of one command that have one name.
-pub fn must_differ<'a>(
-    alloc: Global,
-    one: FileWord<'a>,
-    other: FileWord<'a>,
-) -> Result<(), Trouble>
+pub fn must_differ<'a>(alloc: Global, one: FileWord<'a>, other: FileWord<'a>) -> Result<(), Trouble>
     ensures { OnOk result (one.entry.name.now ≢ other.entry.name.now) }
 {
     if one.name == other.name {
@@ -174,7 +170,7 @@ pub fn same_file<'a>(
 }
 
 /// The failure of a file that must be a regular one and isn't.
-pub fn not_regular<'a>(alloc: Global, file: FileWord<'a>) -> Result<Trouble, AllocError> {
+pub fn not_regular(alloc: Global, file: FileWord<'_>) -> Result<Trouble, AllocError> {
     Ok(Trouble::new(Failure::usage(alloc, "pcompact: not a regular file\n")?).about(file))
 }
 
@@ -224,11 +220,7 @@ where
 }
 
 /// Abandons the file that a command was writing when this error came, and returns the error.
-pub fn failed<'a, H: Files>(
-    host: &H,
-    trouble: Trouble,
-    out: Output<'a, H::File>,
-) -> Trouble {
+pub fn failed<H: Files>(host: &H, trouble: Trouble, out: Output<'_, H::File>) -> Trouble {
     out.abandon(host);
     trouble
 }

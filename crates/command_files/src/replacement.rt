@@ -162,9 +162,9 @@ impl<'a> Replacement<'a> {
 }
 
 /// Makes a file beside this place under the first free name, open for writing, and locks it.
-fn make_beside<'a, H: Files + AllocGlobal>(
+fn make_beside<H: Files + AllocGlobal>(
     host: &H,
-    word: FileWord<'a>,
+    word: FileWord<'_>,
     place: &PathBuf,
     making: Making<'_>,
 ) -> Result<New<H::File>, Trouble>

@@ -61,10 +61,7 @@ impl<'a> WorkDone<'a> {
     }
 }
 
-fn take_place<'a, H: Files>(
-    host: &H,
-    replacement: Option<Replacement<'a>>,
-) -> Result<(), Trouble>
+fn take_place<H: Files>(host: &H, replacement: Option<Replacement<'_>>) -> Result<(), Trouble>
     ensures { IfErr result (λ trouble. trouble.failure ≡ failed_device) }
 {
     match replacement {

@@ -94,7 +94,7 @@ pub enum Form {
 }
 
 /// The failure of a request for both a drawing and a page.
-fn two_pictures<'a>(alloc: Global) -> Result<Trouble, AllocError> {
+fn two_pictures(alloc: Global) -> Result<Trouble, AllocError> {
     let text = "pcompact: --svg and --html cannot be used together\n";
     Ok(Trouble::new(Failure::usage(alloc, text)?))
 }

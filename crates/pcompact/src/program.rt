@@ -297,7 +297,7 @@ fn report_stats<H: Files + Threads + Clock, B: Write>(host: &H, stats: Option<St
 }
 
 /// Prints the text of a command, and then renames its files into place.
-fn finish<'a, H: Files, A: Write>(host: &H, done: WorkDone<'a>, out: &mut A) -> Result<(), Trouble>
+fn finish<H: Files, A: Write>(host: &H, done: WorkDone<'_>, out: &mut A) -> Result<(), Trouble>
     ensures shown { OnOk result (Appends (A.contents out.old) (A.contents out.new) done.entry.text.items) }
     ensures fault { IfErr result (λ trouble. trouble.failure ≡ failed_device) }
 {

@@ -89,9 +89,9 @@ where
 }
 
 /// Writes the list of objects to its file.
-fn write_list<'a, F: Write + Drop>(
+fn write_list<F: Write + Drop>(
     listed: Option<(ListedImport, String)>,
-    list: &mut Watched<'a, F>,
+    list: &mut Watched<'_, F>,
 ) -> Result<(), Trouble> {
     let Some((import, room)) = listed else {
         return Ok(());
