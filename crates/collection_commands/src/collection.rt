@@ -49,7 +49,7 @@ pub fn collect_files<'a, R: Files + AllocGlobal + Threads + Wait + Clock + Sync>
     image: Watched<'a, R::File>,
     mut out: Output<'a, R::File>,
     mut schedule: Option<Output<'a, R::File>>,
-) -> Result<WorkDone<'a>, Trouble<'a>>
+) -> Result<WorkDone<'a>, Trouble>
 where
     R::File: FileExt + SystemFile + Sync,
     ensures { IfOk result (λ done. IsFigures done.text.items) }
@@ -142,7 +142,7 @@ fn end<'a, H: Files>(
     image: ImageFile<'a, H::File>,
     out: Output<'a, H::File>,
     schedule: Option<Output<'a, H::File>>,
-) -> Result<WorkDone<'a>, Trouble<'a>>
+) -> Result<WorkDone<'a>, Trouble>
 where
     H::File: SystemFile,
     requires { IfOk collected.outcome (λ done. IsFigures (string_bytes done.line)) }
@@ -173,7 +173,7 @@ fn all_ended<'a, H: Files>(
     line: String,
     out: Output<'a, H::File>,
     schedule: Option<Output<'a, H::File>>,
-) -> Result<WorkDone<'a>, Trouble<'a>>
+) -> Result<WorkDone<'a>, Trouble>
 where
     H::File: SystemFile,
     ensures { IfOk result (λ done. done.text.items ≡ string_bytes line) }
@@ -187,10 +187,10 @@ where
 /// Abandons the files after this trouble, and says which file it is about.
 fn all_failed<'a, H: Files>(
     host: &H,
-    trouble: Trouble<'a>,
+    trouble: Trouble,
     out: Output<'a, H::File>,
     schedule: Option<Output<'a, H::File>>,
-) -> Trouble<'a> {
+) -> Trouble {
     let trouble = trouble.if_failed(&out.file);
     match schedule {
         Some(schedule) => {

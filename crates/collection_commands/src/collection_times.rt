@@ -59,7 +59,7 @@ impl CollectionTimes {
     }
 
     /// The failure of a collection that ended with this fault.
-    pub fn trouble<'a>(self, fault: Fault) -> Trouble<'a> {
+    pub fn trouble(self, fault: Fault) -> Trouble {
         Trouble::from(fault).if_workers(self.run.workers)
     }
 

@@ -26,7 +26,7 @@ use std::time::Clock;
 pub fn answer<'a, R: Files + AllocGlobal + Threads + Wait + Clock + Sync>(
     rt: &R,
     request: Record<'a>,
-) -> Result<WorkDone<'a>, Trouble<'a>>
+) -> Result<WorkDone<'a>, Trouble>
 where
     R::File: FileExt + SystemFile + Sync,
     ensures { IfOk result (λ done. IsFigures done.text.items) }
@@ -45,7 +45,7 @@ type ImageOutAndSchedule<'a, F> = (Watched<'a, F>, Output<'a, F>, Output<'a, F>)
 fn image_out_and_schedule<'a, H: Files + AllocGlobal>(
     host: &H,
     request: &Record<'a>,
-) -> Result<ImageOutAndSchedule<'a, H::File>, Trouble<'a>>
+) -> Result<ImageOutAndSchedule<'a, H::File>, Trouble>
 where
     H::File: SystemFile,
 {
@@ -70,7 +70,7 @@ struct Named<'a> {
 }
 
 /// Rejects two equal names, but for IMAGE and OUT with `--atomic`.
-fn names_must_differ<'a>(alloc: Global, named: Named<'a>, atomic: bool) -> Result<(), Trouble<'a>> {
+fn names_must_differ(alloc: Global, named: Named<'_>, atomic: bool) -> Result<(), Trouble> {
     if !atomic {
         output_must_differ(alloc, named.image, named.out)?;
     }
@@ -87,7 +87,7 @@ fn targets_beside<'a, H: Files + AllocGlobal>(
     image: &Watched<'a, H::File>,
     named: Named<'a>,
     atomic: bool,
-) -> Result<Targets<'a, H::File>, Trouble<'a>> {
+) -> Result<Targets<'a, H::File>, Trouble> {
     let (id, writing) = (image.id()?, image.writing(atomic)?);
     let out = FileTarget::find(host, named.out, writing)?;
     let schedule = FileTarget::find(host, named.schedule, writing)?;
@@ -108,7 +108,7 @@ fn begin_both<'a, H: Files + AllocGlobal>(
     host: &H,
     out: FileTarget<'a, H::File>,
     schedule: FileTarget<'a, H::File>,
-) -> Result<Outputs<'a, H::File>, Trouble<'a>>
+) -> Result<Outputs<'a, H::File>, Trouble>
 where
     H::File: SystemFile,
 {
@@ -125,7 +125,7 @@ fn one_file<'a, H: Files>(
     (image, id): (FileWord<'a>, FileId),
     out: &FileTarget<'a, H::File>,
     schedule: &FileTarget<'a, H::File>,
-) -> Result<Option<(FileWord<'a>, FileWord<'a>)>, Trouble<'a>> {
+) -> Result<Option<(FileWord<'a>, FileWord<'a>)>, Trouble> {
     Ok(if !out.is_replaced() && out.is(id) {
         Some((image, out.word()))
     } else if schedule.is(id) {

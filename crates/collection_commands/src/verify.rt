@@ -25,7 +25,7 @@ pub fn answer<'a, R: Files + AllocGlobal + Threads + Clock + Sync>(
     rt: &R,
     screen: Screen,
     request: Verify<'a>,
-) -> Result<WorkDone<'a>, Trouble<'a>>
+) -> Result<WorkDone<'a>, Trouble>
 where
     R::File: FileExt + Sync,
     ensures { IfOk result (λ done. done.text.items ≡ codes "same\n") }
@@ -117,7 +117,7 @@ fn trouble<'a, R: AllocGlobal + Threads + Sync, F: FileExt + Sync + Drop>(
     before: &Watched<'a, F>,
     after: &Watched<'a, F>,
     wishes: Wishes,
-) -> Trouble<'a> {
+) -> Trouble {
     let lines = match &refused.was {
         Some(was) if wishes.explain => {
             explanation_of_file(rt, was, after.file(), wishes.ignore_free)
@@ -133,7 +133,7 @@ fn told<'a>(
     compared: Compared,
     after: FileWord<'a>,
     stats: Stats,
-) -> Result<WorkDone<'a>, Trouble<'a>>
+) -> Result<WorkDone<'a>, Trouble>
     ensures { IfOk result (λ done. done.text.items ≡ codes "same\n") }
 {
     match difference(compared.verdict) {
@@ -166,7 +166,7 @@ fn trouble_of<'a, F: Drop>(
     unverified: Unverified,
     before: &Watched<'a, F>,
     after: &Watched<'a, F>,
-) -> Trouble<'a> {
+) -> Trouble {
     match unverified {
         Unverified::Before(fault) => Trouble::from(fault).if_image(before),
         Unverified::After(fault) => Trouble::from(fault).if_image(after),

@@ -56,7 +56,7 @@ impl<'a, F: OpenFile + Drop> FileTarget<'a, F> {
         host: &H,
         word: FileWord<'a>,
         writing: Writing,
-    ) -> Result<FileTarget<'a, F>, Trouble<'a>> {
+    ) -> Result<FileTarget<'a, F>, Trouble> {
         if writing.atomic && word.is_standard() {
             return Err(not_regular(host.alloc(), word)?);
         }
@@ -119,7 +119,7 @@ impl<'a, F: OpenFile + Drop> FileTarget<'a, F> {
         &self,
         host: &H,
         other: &FileTarget<'a, F>,
-    ) -> Result<bool, Trouble<'a>> {
+    ) -> Result<bool, Trouble> {
         match (self.found, other.found) {
             (Some(one), Some(other)) => Ok(one.is_same(other)),
             (None, None) => is_one_place(host, self.word, other.word),
@@ -143,7 +143,7 @@ impl<'a, F: OpenFile + Drop> FileTarget<'a, F> {
         self,
         host: &H,
         apart: Option<&str>,
-    ) -> Result<Output<'a, F>, Trouble<'a>>
+    ) -> Result<Output<'a, F>, Trouble>
     where
         F: SystemFile,
     {
@@ -170,11 +170,11 @@ impl<'a, F: OpenFile + Drop> FileTarget<'a, F> {
 }
 
 /// Opens a file to write it in place, and makes it if it isn't there.
-fn open_in_place<'a, H: Files + AllocGlobal>(
+fn open_in_place<H: Files + AllocGlobal>(
     host: &H,
-    word: FileWord<'a>,
+    word: FileWord<'_>,
     is_private: bool,
-) -> Result<Found<H::File>, Trouble<'a>> {
+) -> Result<Found<H::File>, Trouble> {
     let opened = open(host, word.path_to_write(), is_private);
     let (file, is_new) = on_file(word, SystemCall::Open, opened)?;
     match on_file(word, SystemCall::Stat, file.metadata()) {
@@ -200,7 +200,7 @@ fn begin_in_place<'a, F: SystemFile + Drop>(
     word: FileWord<'a>,
     file: F,
     len: Option<u64>,
-) -> Result<Output<'a, F>, Trouble<'a>> {
+) -> Result<Output<'a, F>, Trouble> {
     let len = if file.is_standard_output() { None } else { len };
     if len.unwrap_or(0) > 0 {
         on_file(word, SystemCall::Empty, file.set_len(0))?;
@@ -249,10 +249,10 @@ fn writable<H: Files>(host: &H, name: &str) -> io::Result<Metadata> {
 }
 
 /// The place of a new file, and the file that it replaces, if there is one.
-fn find_place<'a, H: Files + AllocGlobal>(
+fn find_place<H: Files + AllocGlobal>(
     host: &H,
-    word: FileWord<'a>,
-) -> Result<Found<H::File>, Trouble<'a>> {
+    word: FileWord<'_>,
+) -> Result<Found<H::File>, Trouble> {
     match fs::symlink_metadata(host, word.name) {
         Ok(named) => find_replaced(host, word, named.is_symlink()),
         Err(error) if error.kind() != ErrorKind::NotFound => {
@@ -276,11 +276,11 @@ fn may_be_made(name: &str) -> bool {
 }
 
 /// A file that is to be replaced, and its place. It must be a regular file.
-fn find_replaced<'a, H: Files + AllocGlobal>(
+fn find_replaced<H: Files + AllocGlobal>(
     host: &H,
-    word: FileWord<'a>,
+    word: FileWord<'_>,
     is_link: bool,
-) -> Result<Found<H::File>, Trouble<'a>> {
+) -> Result<Found<H::File>, Trouble> {
     must_be_regular(host, word)?;
     let place = place_of(host, word, is_link)?;
     let found = on_file(word, SystemCall::Open, writable(host, word.name))?;
@@ -289,10 +289,7 @@ fn find_replaced<'a, H: Files + AllocGlobal>(
 }
 
 /// Refuses what isn't a regular file.
-fn must_be_regular<'a, H: Files + AllocGlobal>(
-    host: &H,
-    word: FileWord<'a>,
-) -> Result<(), Trouble<'a>> {
+fn must_be_regular<H: Files + AllocGlobal>(host: &H, word: FileWord<'_>) -> Result<(), Trouble> {
     match fs::metadata(host, word.name) {
         Ok(found) if found.is_file() => Ok(()),
         Err(error) if error.kind() != ErrorKind::NotFound => {
@@ -303,11 +300,11 @@ fn must_be_regular<'a, H: Files + AllocGlobal>(
 }
 
 /// The place of a file: its name, or where a link of this name leads.
-fn place_of<'a, H: Files + AllocGlobal>(
+fn place_of<H: Files + AllocGlobal>(
     host: &H,
-    word: FileWord<'a>,
+    word: FileWord<'_>,
     is_link: bool,
-) -> Result<PathBuf, Trouble<'a>> {
+) -> Result<PathBuf, Trouble> {
     if !is_link {
         return Ok(PathBuf::from_str(host.alloc(), word.name)?);
     }
@@ -323,7 +320,7 @@ fn is_one_place<'a, H: Files>(
     host: &H,
     one: FileWord<'a>,
     other: FileWord<'a>,
-) -> Result<bool, Trouble<'a>> {
+) -> Result<bool, Trouble> {
     if Path::new(one.name).file_name() != Path::new(other.name).file_name() {
         return Ok(false);
     }
@@ -332,7 +329,7 @@ fn is_one_place<'a, H: Files>(
 }
 
 /// Which file of the system the folder of a file is.
-fn folder_id<'a, H: Files>(host: &H, word: FileWord<'a>) -> Result<FileId, Trouble<'a>> {
+fn folder_id<H: Files>(host: &H, word: FileWord<'_>) -> Result<FileId, Trouble> {
     let folder = fs::metadata(host, folder_of(Path::new(word.name)));
     Ok(FileId::of(&on_file(word, SystemCall::Stat, folder)?))
 }

@@ -22,7 +22,7 @@ pub fn open_image<'a, H: Files>(
     host: &H,
     name: &'a str,
     shape: Shape,
-) -> Result<Watched<'a, H::File>, Trouble<'a>> {
+) -> Result<Watched<'a, H::File>, Trouble> {
     let image = Watched::open(host, FileWord::new(Role::Image, name))?;
     Ok(image.with_shape(shape))
 }
@@ -33,7 +33,7 @@ pub fn image_and_out<'a, H: Files + AllocGlobal>(
     image: &'a str,
     out: &'a str,
     atomic: bool,
-) -> Result<ImageAndOut<'a, H::File>, Trouble<'a>>
+) -> Result<ImageAndOut<'a, H::File>, Trouble>
 where
     H::File: SystemFile,
 {
@@ -52,7 +52,7 @@ pub fn two_inputs<'a, H: Files + AllocGlobal>(
     host: &H,
     one: FileWord<'a>,
     other: FileWord<'a>,
-) -> Result<(Watched<'a, H::File>, Watched<'a, H::File>), Trouble<'a>> {
+) -> Result<(Watched<'a, H::File>, Watched<'a, H::File>), Trouble> {
     if one.is_standard() && other.is_standard() {
         return Err(same_file(host.alloc(), one, other)?);
     }
@@ -66,7 +66,7 @@ pub fn two_different_inputs<'a, H: Files + AllocGlobal>(
     host: &H,
     one: FileWord<'a>,
     other: FileWord<'a>,
-) -> Result<(Watched<'a, H::File>, Watched<'a, H::File>), Trouble<'a>> {
+) -> Result<(Watched<'a, H::File>, Watched<'a, H::File>), Trouble> {
     must_differ(host.alloc(), one, other)?;
     let (one, other) = two_inputs(host, one, other)?;
     must_be_two(host.alloc(), &one, &other)?;
@@ -78,7 +78,7 @@ fn must_be_two<'a, F: OpenFile + Drop>(
     alloc: Global,
     one: &Watched<'a, F>,
     other: &Watched<'a, F>,
-) -> Result<(), Trouble<'a>> {
+) -> Result<(), Trouble> {
     if one.id()?.is_same(other.id()?) {
         return Err(same_file(alloc, one.word(), other.word())?);
     }
@@ -91,7 +91,7 @@ pub fn target_beside<'a, H: Files + AllocGlobal>(
     read: &Watched<'a, H::File>,
     out: FileWord<'a>,
     atomic: bool,
-) -> Result<FileTarget<'a, H::File>, Trouble<'a>> {
+) -> Result<FileTarget<'a, H::File>, Trouble> {
     if atomic {
         FileTarget::find(host, out, read.writing(atomic)?)
     } else {
@@ -105,7 +105,7 @@ pub fn different_target<'a, H: Files + AllocGlobal>(
     read: &Watched<'a, H::File>,
     out: FileWord<'a>,
     atomic: bool,
-) -> Result<FileTarget<'a, H::File>, Trouble<'a>> {
+) -> Result<FileTarget<'a, H::File>, Trouble> {
     output_must_differ(host.alloc(), read.word(), out)?;
     other_target(host, read, out, atomic)
 }
@@ -116,7 +116,7 @@ pub fn other_target<'a, H: Files + AllocGlobal>(
     read: &Watched<'a, H::File>,
     out: FileWord<'a>,
     atomic: bool,
-) -> Result<FileTarget<'a, H::File>, Trouble<'a>> {
+) -> Result<FileTarget<'a, H::File>, Trouble> {
     let (id, writing) = (read.id()?, read.writing(atomic)?);
     let out = FileTarget::find(host, out, writing)?;
     reject_same_file(host, out, read.word(), id)
@@ -128,7 +128,7 @@ pub fn reject_same_file<'a, H: Files + AllocGlobal>(
     found: FileTarget<'a, H::File>,
     read: FileWord<'a>,
     id: FileId,
-) -> Result<FileTarget<'a, H::File>, Trouble<'a>> {
+) -> Result<FileTarget<'a, H::File>, Trouble> {
     if found.is(id) {
         let same = same_file(host.alloc(), read, found.word());
         found.leave(host);
@@ -138,11 +138,7 @@ pub fn reject_same_file<'a, H: Files + AllocGlobal>(
 }
 
 /// Refuses two files of one command that have one name.
-pub fn must_differ<'a>(
-    alloc: Global,
-    one: FileWord<'a>,
-    other: FileWord<'a>,
-) -> Result<(), Trouble<'a>>
+pub fn must_differ<'a>(alloc: Global, one: FileWord<'a>, other: FileWord<'a>) -> Result<(), Trouble>
     ensures { OnOk result (one.entry.name.now ≢ other.entry.name.now) }
 {
     if one.name == other.name {
@@ -156,7 +152,7 @@ pub fn output_must_differ<'a>(
     alloc: Global,
     read: FileWord<'a>,
     written: FileWord<'a>,
-) -> Result<(), Trouble<'a>> {
+) -> Result<(), Trouble> {
     if read.is_standard() {
         return Ok(());
     }
@@ -168,13 +164,13 @@ pub fn same_file<'a>(
     alloc: Global,
     one: FileWord<'a>,
     other: FileWord<'a>,
-) -> Result<Trouble<'a>, AllocError> {
+) -> Result<Trouble, AllocError> {
     let same = Trouble::new(Failure::usage(alloc, "pcompact: same file\n")?);
     Ok(same.about(one).about(other))
 }
 
 /// The failure of a file that must be a regular one and isn't.
-pub fn not_regular<'a>(alloc: Global, file: FileWord<'a>) -> Result<Trouble<'a>, AllocError> {
+pub fn not_regular(alloc: Global, file: FileWord<'_>) -> Result<Trouble, AllocError> {
     Ok(Trouble::new(Failure::usage(alloc, "pcompact: not a regular file\n")?).about(file))
 }
 
@@ -183,7 +179,7 @@ pub fn ended<'a, H: Files>(
     host: &H,
     line: String,
     out: Output<'a, H::File>,
-) -> Result<WorkDone<'a>, Trouble<'a>>
+) -> Result<WorkDone<'a>, Trouble>
 where
     H::File: SystemFile,
     ensures { IfOk result (λ done. done.text.items ≡ string_bytes line) }
@@ -202,7 +198,7 @@ pub fn both_ended<'a, H: Files>(
     line: String,
     out: Output<'a, H::File>,
     schedule: Output<'a, H::File>,
-) -> Result<WorkDone<'a>, Trouble<'a>>
+) -> Result<WorkDone<'a>, Trouble>
 where
     H::File: SystemFile,
     ensures { IfOk result (λ done. done.text.items ≡ string_bytes line) }
@@ -224,11 +220,7 @@ where
 }
 
 /// Abandons the file that a command was writing when this error came, and returns the error.
-pub fn failed<'a, H: Files>(
-    host: &H,
-    trouble: Trouble<'a>,
-    out: Output<'a, H::File>,
-) -> Trouble<'a> {
+pub fn failed<H: Files>(host: &H, trouble: Trouble, out: Output<'_, H::File>) -> Trouble {
     out.abandon(host);
     trouble
 }
@@ -237,10 +229,10 @@ pub fn failed<'a, H: Files>(
 /// two.
 pub fn failed_between<'a, H: Files>(
     host: &H,
-    trouble: Trouble<'a>,
+    trouble: Trouble,
     image: &Watched<'a, H::File>,
     out: Output<'a, H::File>,
-) -> Trouble<'a> {
+) -> Trouble {
     let trouble = trouble.if_image(image).if_failed(&out.file);
     failed(host, trouble, out)
 }

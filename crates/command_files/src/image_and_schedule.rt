@@ -16,10 +16,7 @@ pub struct ImageAndSchedule<'a> {
 
 impl<'a> ImageAndSchedule<'a> {
     /// Opens both files, which must not be one.
-    pub fn open<H: Files + AllocGlobal>(
-        self,
-        host: &H,
-    ) -> Result<Opened<'a, H::File>, Trouble<'a>> {
+    pub fn open<H: Files + AllocGlobal>(self, host: &H) -> Result<Opened<'a, H::File>, Trouble> {
         let image = FileWord::new(Role::Image, self.image);
         let schedule = FileWord::new(Role::Schedule, self.schedule);
         let (image, schedule) = two_different_inputs(host, image, schedule)?;

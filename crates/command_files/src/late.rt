@@ -20,7 +20,7 @@ pub struct Late<'a, 'h, H: Files> {
     /// The name that a new file doesn't get.
     apart: Option<String>,
     /// The file from its first byte on, or the error that prevented it.
-    begun: Option<Result<Output<'a, H::File>, Trouble<'a>>>,
+    begun: Option<Result<Output<'a, H::File>, Trouble>>,
 }
 
 impl<H: Files> Drop for Late<'_, '_, H> {
@@ -72,7 +72,7 @@ where
     /// The file, begun even if nothing was written.
     ///
     /// Fault 13 if it can't be begun, and 11 if memory runs out.
-    pub fn into_output(mut self) -> Result<Output<'a, H::File>, Trouble<'a>> {
+    pub fn into_output(mut self) -> Result<Output<'a, H::File>, Trouble> {
         self.begin();
         match self.begun.take() {
             Some(begun) => begun,
@@ -81,7 +81,7 @@ where
     }
 
     /// Finishes the file, even if nothing was written. The command prints this line.
-    pub fn ended(self, line: String) -> Result<WorkDone<'a>, Trouble<'a>>
+    pub fn ended(self, line: String) -> Result<WorkDone<'a>, Trouble>
         ensures { IfOk result (λ done. done.text.items ≡ string_bytes line) }
     {
         let host = self.host;
@@ -89,7 +89,7 @@ where
     }
 
     /// The error of a command that failed before the file was complete. A file that wasn't begun is unchanged.
-    pub fn failed(mut self, trouble: Trouble<'a>) -> Trouble<'a> {
+    pub fn failed(mut self, trouble: Trouble) -> Trouble {
         if let Some(found) = self.found.take() {
             found.leave(self.host);
         }

@@ -34,7 +34,7 @@ impl<'a, F: OpenFile + Seek + Drop> Output<'a, F> {
     pub fn finish<H: Files<File = F>>(
         mut self,
         host: &H,
-    ) -> Result<Option<Replacement<'a>>, Trouble<'a>>
+    ) -> Result<Option<Replacement<'a>>, Trouble>
     where
         F: SystemFile,
     {

@@ -78,7 +78,7 @@ impl<'a> Replacement<'a> {
         word: FileWord<'a>,
         place: PathBuf,
         making: Making<'_>,
-    ) -> Result<Output<'a, H::File>, Trouble<'a>>
+    ) -> Result<Output<'a, H::File>, Trouble>
     where
         H::File: SystemFile,
     {
@@ -111,7 +111,7 @@ impl<'a> Replacement<'a> {
         self,
         host: &H,
         file: &H::File,
-    ) -> Result<Replacement<'a>, Trouble<'a>>
+    ) -> Result<Replacement<'a>, Trouble>
     where
         H::File: SystemFile,
         ensures { IfErr result (λ trouble. trouble.failure ≡ failed_device) }
@@ -125,7 +125,7 @@ impl<'a> Replacement<'a> {
         }
     }
 
-    fn give_access_and_sync<F: SystemFile>(&self, file: &F) -> Result<(), Trouble<'a>>
+    fn give_access_and_sync<F: SystemFile>(&self, file: &F) -> Result<(), Trouble>
         ensures { IfErr result (λ trouble. trouble.failure ≡ failed_device) }
     {
         if let Some(access) = self.access {
@@ -142,7 +142,7 @@ impl<'a> Replacement<'a> {
     /// Renames the new file to its place. A file that was there is gone.
     ///
     /// After fault 13 the place is unchanged and the new file is removed.
-    pub fn take_place<H: Files>(self, host: &H) -> Result<(), Trouble<'a>>
+    pub fn take_place<H: Files>(self, host: &H) -> Result<(), Trouble>
         ensures { IfErr result (λ trouble. trouble.failure ≡ failed_device) }
     {
         let renamed = fs::rename(host, &self.new, &self.place);
@@ -162,12 +162,12 @@ impl<'a> Replacement<'a> {
 }
 
 /// Makes a file beside this place under the first free name, open for writing, and locks it.
-fn make_beside<'a, H: Files + AllocGlobal>(
+fn make_beside<H: Files + AllocGlobal>(
     host: &H,
-    word: FileWord<'a>,
+    word: FileWord<'_>,
     place: &PathBuf,
     making: Making<'_>,
-) -> Result<New<H::File>, Trouble<'a>>
+) -> Result<New<H::File>, Trouble>
 where
     H::File: SystemFile,
 {

@@ -44,7 +44,7 @@ impl<'a> WorkDone<'a> {
     /// Renames the new files to their places, OUT's first.
     ///
     /// After fault 13 no new file is left beside a place. OUT's may have taken its place.
-    pub fn take_places<H: Files>(self, host: &H) -> Result<(), Trouble<'a>>
+    pub fn take_places<H: Files>(self, host: &H) -> Result<(), Trouble>
         ensures { IfErr result (λ trouble. trouble.failure ≡ failed_device) }
     {
         if let Err(trouble) = take_place(host, self.out) {
@@ -61,10 +61,7 @@ impl<'a> WorkDone<'a> {
     }
 }
 
-fn take_place<'a, H: Files>(
-    host: &H,
-    replacement: Option<Replacement<'a>>,
-) -> Result<(), Trouble<'a>>
+fn take_place<H: Files>(host: &H, replacement: Option<Replacement<'_>>) -> Result<(), Trouble>
     ensures { IfErr result (λ trouble. trouble.failure ≡ failed_device) }
 {
     match replacement {

@@ -39,6 +39,7 @@ pub use files::content::Content;
 pub use files::file_id::FileId;
 pub use files::file_word::{FileWord, Role};
 pub use files::head::{heads_have_shapes, reshape, unchanged_heads_stay};
+pub use files::named_files::NamedFiles;
 pub use files::watched::Watched;
 pub use files::writing::Writing;
 pub use json::push_json;

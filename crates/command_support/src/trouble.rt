@@ -11,7 +11,8 @@ pub(crate) mod reason;
 
 use crate::failure::Failure;
 use crate::files::content::Content;
-use crate::files::file_word::FileWord;
+use crate::files::file_word::{FileWord, Role};
+use crate::files::named_files::NamedFiles;
 use crate::files::watched::Watched;
 use failed_call::{FailedCall, SystemCall};
 use heap_image::{Fault, LengthCause};
@@ -24,22 +25,23 @@ use std::io::Write;
 
 /// A failure with the details that `--verbose` prints.
 #[derive(Drop)]
-pub struct Trouble<'a> {
+pub struct Trouble {
     /// Decides the exit status and the first line on standard error.
     pub failure: Failure,
+    // Roles, and no names: a lifetime would double the proof of each function that may fail.
     /// The file that it is about.
-    file: Option<FileWord<'a>>,
+    file: Option<Role>,
     /// The other file that it is about.
-    other: Option<FileWord<'a>>,
+    other: Option<Role>,
     reason: Option<Reason>,
     hint: Option<Hint>,
     /// Further lines for `--explain`.
     explanation: Option<String>,
 }
 
-impl<'a> Trouble<'a> {
+impl Trouble {
     /// A failure without details.
-    pub fn new(failure: Failure) -> Trouble<'a>
+    pub fn new(failure: Failure) -> Trouble
         ensures { result.failure ≡ failure }
     {
         Trouble {
@@ -53,7 +55,7 @@ impl<'a> Trouble<'a> {
     }
 
     /// This call on this file failed: fault 13.
-    pub fn of_call(file: FileWord<'a>, call: SystemCall, error: &io::Error) -> Trouble<'a>
+    pub fn of_call(file: FileWord<'_>, call: SystemCall, error: &io::Error) -> Trouble
         ensures { result.failure ≡ failed_device }
     {
         Trouble::new(Failure::Fault(Fault::Io))
@@ -62,41 +64,41 @@ impl<'a> Trouble<'a> {
     }
 
     /// Adds the file that it is about. A file that was there stays, as the other one.
-    pub fn about(mut self, file: FileWord<'a>) -> Trouble<'a>
-        ensures { result.failure ≡ self.entry.failure }
+    pub fn about(mut self, file: FileWord<'_>) -> Trouble
+        ensures { result.failure ≡ self.failure }
     {
         self.other = self.file;
-        self.file = Some(file);
+        self.file = Some(file.role);
         self
     }
 
     /// Adds the reason.
-    pub fn because(mut self, reason: Reason) -> Trouble<'a>
-        ensures { result.failure ≡ self.entry.failure }
+    pub fn because(mut self, reason: Reason) -> Trouble
+        ensures { result.failure ≡ self.failure }
     {
         self.reason = Some(reason);
         self
     }
 
     /// Adds this file, which the failure says to be none of what is wanted, and the hint about it.
-    fn about_content<F: Drop>(mut self, wanted: Content, file: &Watched<'a, F>) -> Trouble<'a>
-        ensures { result.failure ≡ self.entry.failure }
+    fn about_content<F: Drop>(mut self, wanted: Content, file: &Watched<'_, F>) -> Trouble
+        ensures { result.failure ≡ self.failure }
     {
         self.hint = Hint::of(wanted, file.first_bytes());
         self.about(file.word())
     }
 
     /// Adds lines that explain it, if there are some.
-    pub fn explained(mut self, explanation: Option<String>) -> Trouble<'a>
-        ensures { result.failure ≡ self.entry.failure }
+    pub fn explained(mut self, explanation: Option<String>) -> Trouble
+        ensures { result.failure ≡ self.failure }
     {
         self.explanation = explanation;
         self
     }
 
     /// Adds this file and the call, if a call on the file failed.
-    pub fn if_failed<F: Drop>(self, file: &Watched<'a, F>) -> Trouble<'a>
-        ensures { result.failure ≡ self.entry.failure }
+    pub fn if_failed<F: Drop>(self, file: &Watched<'_, F>) -> Trouble
+        ensures { result.failure ≡ self.failure }
     {
         match (self.fault(), file.failed()) {
             (Some(Fault::Io), Some(call)) => self
@@ -108,8 +110,8 @@ impl<'a> Trouble<'a> {
 
     /// Adds this file, if it is a fault of the image in the file, the image has a later version than wanted, or a call on
     /// the file failed.
-    pub fn if_image<F: Drop>(mut self, image: &Watched<'a, F>) -> Trouble<'a>
-        ensures { result.failure ≡ self.entry.failure }
+    pub fn if_image<F: Drop>(mut self, image: &Watched<'_, F>) -> Trouble
+        ensures { result.failure ≡ self.failure }
     {
         match &self.failure {
             Failure::Later { .. } => self.about(image.word()),
@@ -127,8 +129,8 @@ impl<'a> Trouble<'a> {
     }
 
     /// Adds the dump, if it gives no image or a call on one of these two openings of it failed.
-    pub fn if_dump<F: Drop>(mut self, dump: &Watched<'a, F>, again: &Watched<'a, F>) -> Trouble<'a>
-        ensures { result.failure ≡ self.entry.failure }
+    pub fn if_dump<F: Drop>(mut self, dump: &Watched<'_, F>, again: &Watched<'_, F>) -> Trouble
+        ensures { result.failure ≡ self.failure }
     {
         match &self.failure {
             Failure::Dump(error) => {
@@ -140,8 +142,8 @@ impl<'a> Trouble<'a> {
     }
 
     /// Adds this file, if its text is none of a heap or a call on the file failed.
-    pub fn if_text<F: Drop>(self, text: &Watched<'a, F>) -> Trouble<'a>
-        ensures { result.failure ≡ self.entry.failure }
+    pub fn if_text<F: Drop>(self, text: &Watched<'_, F>) -> Trouble
+        ensures { result.failure ≡ self.failure }
     {
         match &self.failure {
             Failure::Text(_) => self.about_content(Content::Text, text),
@@ -150,8 +152,8 @@ impl<'a> Trouble<'a> {
     }
 
     /// Adds the requested number of workers, if that isn't allowed.
-    pub fn if_workers(self, count: u32) -> Trouble<'a>
-        ensures { result.failure ≡ self.entry.failure }
+    pub fn if_workers(self, count: u32) -> Trouble
+        ensures { result.failure ≡ self.failure }
     {
         match self.fault() {
             Some(Fault::Workers) => self.because(Reason::Workers(count)),
@@ -160,12 +162,8 @@ impl<'a> Trouble<'a> {
     }
 
     /// Adds this file, if it is about a line of the schedule in it or a call on it failed, and the reason.
-    pub fn if_line<F: Drop>(
-        self,
-        schedule: &Watched<'a, F>,
-        reason: Option<LineReason>,
-    ) -> Trouble<'a>
-        ensures { result.failure ≡ self.entry.failure }
+    pub fn if_line<F: Drop>(self, schedule: &Watched<'_, F>, reason: Option<LineReason>) -> Trouble
+        ensures { result.failure ≡ self.failure }
     {
         let trouble = match self.fault() {
             Some(Fault::Schedule(_)) => self.about_content(Content::Schedule, schedule),
@@ -177,10 +175,11 @@ impl<'a> Trouble<'a> {
         }
     }
 
-    /// Writes the lines of `--verbose`: the files, the reason and the hint, and those of `--explain`.
-    pub fn print_details<B: Write>(&self, err: &mut B) -> io::Result<()> {
-        print_file(self.other, err)?;
-        print_file(self.file, err)?;
+    /// Writes the lines of `--verbose`: the files, by their names among these, the reason and the hint, and those of
+    /// `--explain`.
+    pub fn print_details<B: Write>(&self, named: NamedFiles<'_>, err: &mut B) -> io::Result<()> {
+        print_file(named, self.other, err)?;
+        print_file(named, self.file, err)?;
         if let Some(reason) = &self.reason {
             reason.print(err)?;
         }
@@ -201,9 +200,9 @@ impl<'a> Trouble<'a> {
     }
 }
 
-/// Writes the line of a file, if there is one.
-fn print_file<B: Write>(file: Option<FileWord<'_>>, err: &mut B) -> io::Result<()> {
-    match file {
+/// Writes the line of the file of a role, if there is one.
+fn print_file<B: Write>(named: NamedFiles<'_>, role: Option<Role>, err: &mut B) -> io::Result<()> {
+    match named.file(role) {
         Some(file) => {
             let name = Printable(file.name);
             writeln!(err, "pcompact: file {} {name}", file.role)
@@ -213,11 +212,11 @@ fn print_file<B: Write>(file: Option<FileWord<'_>>, err: &mut B) -> io::Result<(
 }
 
 /// The result of a system call on this file. Fault 13 if the call failed.
-pub fn on_file<'a, T>(
-    file: FileWord<'a>,
+pub fn on_file<T>(
+    file: FileWord<'_>,
     call: SystemCall,
     outcome: io::Result<T>,
-) -> Result<T, Trouble<'a>>
+) -> Result<T, Trouble>
     ensures { IfErr result (λ trouble. trouble.failure ≡ failed_device) }
 {
     match outcome {
@@ -249,18 +248,18 @@ fn is_of_image(fault: Fault) -> bool {
     }
 }
 
-impl<'a> From<AllocError> for Trouble<'a> {
+impl From<AllocError> for Trouble {
     ghost from_gives = { λ _ trouble. trouble.failure ≡ Fault Memory };
 
-    fn from(_refused: AllocError) -> Trouble<'a> {
+    fn from(_refused: AllocError) -> Trouble {
         Trouble::new(Failure::Fault(Fault::Memory))
     }
 }
 
-impl<'a> From<Fault> for Trouble<'a> {
+impl From<Fault> for Trouble {
     ghost from_gives = { λ fault trouble. trouble.failure ≡ Fault fault };
 
-    fn from(fault: Fault) -> Trouble<'a> {
+    fn from(fault: Fault) -> Trouble {
         Trouble::new(Failure::Fault(fault))
     }
 }

@@ -6,7 +6,7 @@ use crate::checks::equal;
 use crate::heaps::{Heap, fill, heap_of, joined, moved_and_compacted};
 use claim_board::Pass;
 use heap_image::{Fault, Image};
-use heap_samples::{DEAD, Settings, image_of};
+use heap_samples::{DEAD, Seed, Settings, image_of};
 use std::alloc::{AllocError, Global};
 use std::sync::Wait;
 use std::test::Fail;
@@ -27,54 +27,41 @@ enum Shape {
     Mixed,
 }
 
-/// A pseudo-random generator, the same in each run.
-#[derive(Clone, Copy)]
-struct Seed(u64);
-
-impl Seed {
-    fn below(&mut self, bound: u64) -> u64 {
-        self.0 = self
-            .0
-            .wrapping_mul(6_364_136_223_846_793_005)
-            .wrapping_add(1_442_695_040_888_963_407);
-        (self.0 >> 33).checked_rem(bound).unwrap_or(0)
+/// The shape of the next heap.
+fn shape(seed: &mut Seed) -> Shape {
+    match seed.below(4) {
+        0 => Shape::Packed,
+        1 => Shape::Small,
+        _ => Shape::Mixed,
     }
+}
 
-    fn shape(&mut self) -> Shape {
-        match self.below(4) {
-            0 => Shape::Packed,
-            1 => Shape::Small,
-            _ => Shape::Mixed,
-        }
+/// The number of dead words before the next object.
+fn gap(seed: &mut Seed, shape: Shape, region_words: u64) -> u64 {
+    match (shape, seed.below(6)) {
+        (Shape::Packed, _) => 0,
+        (_, 0) => seed.below(region_words.wrapping_mul(3)),
+        (_, 1 | 2) => seed.below(4),
+        _ => 0,
     }
+}
 
-    /// The number of dead words before the next object.
-    fn gap(&mut self, shape: Shape, region_words: u64) -> u64 {
-        match (shape, self.below(6)) {
-            (Shape::Packed, _) => 0,
-            (_, 0) => self.below(region_words.wrapping_mul(3)),
-            (_, 1 | 2) => self.below(4),
-            _ => 0,
-        }
-    }
+/// The number of words of the next object.
+fn size(seed: &mut Seed, shape: Shape, region_words: u64) -> u64 {
+    let others = match (shape, seed.below(6)) {
+        (Shape::Small, _) | (_, 1 | 2) => 0,
+        (_, 0) => seed.below(region_words.wrapping_mul(3)),
+        _ => seed.below(region_words),
+    };
+    others.wrapping_add(1)
+}
 
-    /// The number of words of the next object.
-    fn size(&mut self, shape: Shape, region_words: u64) -> u64 {
-        let others = match (shape, self.below(6)) {
-            (Shape::Small, _) | (_, 1 | 2) => 0,
-            (_, 0) => self.below(region_words.wrapping_mul(3)),
-            _ => self.below(region_words),
-        };
-        others.wrapping_add(1)
-    }
-
-    /// Null, or a reference to one of these objects.
-    fn reference(&mut self, objects: &[Object]) -> u64 {
-        let index = self.below((objects.len() as u64).wrapping_add(2)) as usize;
-        match objects.get(index) {
-            Some((begin, _)) => begin.wrapping_add(1),
-            None => 0,
-        }
+/// Null, or a reference to one of these objects.
+fn reference(seed: &mut Seed, objects: &[Object]) -> u64 {
+    let index = seed.below((objects.len() as u64).wrapping_add(2)) as usize;
+    match objects.get(index) {
+        Some((begin, _)) => begin.wrapping_add(1),
+        None => 0,
     }
 }
 
@@ -85,12 +72,12 @@ fn seeded_objects(
     region_words: u64,
     len: u64,
 ) -> Result<Vec<Object>, AllocError> {
-    let shape = seed.shape();
+    let shape = shape(seed);
     let mut objects = Vec::new(alloc);
     let mut end: u64 = 0;
     for _ in 0..len {
-        let begin = end.wrapping_add(seed.gap(shape, region_words));
-        let size = seed.size(shape, region_words);
+        let begin = end.wrapping_add(gap(seed, shape, region_words));
+        let size = size(seed, shape, region_words);
         end = begin.wrapping_add(size);
         if end > len {
             break;
@@ -135,7 +122,7 @@ fn put_object(
     words.push(1 << 56 | references << 32 | size)?;
     for i in 1..size {
         let word = if i <= references {
-            seed.reference(objects)
+            reference(seed, objects)
         } else {
             seed.below(1 << 31)
         };

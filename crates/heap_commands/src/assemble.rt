@@ -19,7 +19,7 @@ const LINE_ROOM: usize = 80;
 pub fn answer<'a, R: Files + AllocGlobal>(
     rt: &R,
     request: Assemble<'a>,
-) -> Result<WorkDone<'a>, Trouble<'a>>
+) -> Result<WorkDone<'a>, Trouble>
 where
     R::File: SystemFile,
     ensures { IfOk result (λ done. IsCountLine done.text.items) }
@@ -44,7 +44,7 @@ type TextAndImage<'a, F> = (Watched<'a, F>, FileTarget<'a, F>);
 fn open<'a, H: Files + AllocGlobal>(
     host: &H,
     request: &Assemble<'a>,
-) -> Result<TextAndImage<'a, H::File>, Trouble<'a>> {
+) -> Result<TextAndImage<'a, H::File>, Trouble> {
     let text = FileWord::new(Role::Text, request.text);
     let image = FileWord::new(Role::Image, request.image);
     if !request.atomic {

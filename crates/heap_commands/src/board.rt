@@ -8,7 +8,7 @@ use command_support::Trouble;
 use std::thread::Threads;
 
 /// Returns what `board` prints.
-pub fn answer<'a, R: AllocGlobal + Threads>(rt: &R) -> Result<WorkDone<'a>, Trouble<'a>>
+pub fn answer<'a, R: AllocGlobal + Threads>(rt: &R) -> Result<WorkDone<'a>, Trouble>
     ensures { MatchResult result (λ done. IsBoardText done.text.items)
         (λ trouble. trouble.failure ≡ out_of_memory) }
 {

@@ -19,7 +19,7 @@ const LINE_ROOM: usize = 120;
 pub fn answer<'a, R: Files + AllocGlobal>(
     rt: &R,
     request: Generate<'a>,
-) -> Result<WorkDone<'a>, Trouble<'a>>
+) -> Result<WorkDone<'a>, Trouble>
 where
     R::File: SystemFile,
     ensures { IfOk result (λ done. IsGenerationLine done.text.items) }

@@ -37,7 +37,7 @@ const LINE_ROOM: usize = 240;
 pub fn answer<'a, R: Files + AllocGlobal + Clock>(
     rt: &R,
     request: Import<'a>,
-) -> Result<WorkDone<'a>, Trouble<'a>>
+) -> Result<WorkDone<'a>, Trouble>
 where
     R::File: SystemFile,
     ensures text { IfOk result (λ done. IsImportText (rows_in request.entry) done.text.items) }
@@ -70,7 +70,7 @@ fn import_file<'a, R: Files + AllocGlobal + Clock>(
     image: &mut Late<'a, '_, R>,
     wish: ImportWish,
     watch: Stopwatch,
-) -> Result<(ImportMade, Stats), Trouble<'a>>
+) -> Result<(ImportMade, Stats), Trouble>
 where
     R::File: SystemFile,
     ensures { IfOk result (λ made. IsImportText wish.rows (string_bytes made.0.text)) }
@@ -89,7 +89,7 @@ fn import_pipe<'a, R: Files + AllocGlobal + Clock>(
     image: &mut Late<'a, '_, R>,
     wish: ImportWish,
     watch: Stopwatch,
-) -> Result<(ImportMade, Stats), Trouble<'a>>
+) -> Result<(ImportMade, Stats), Trouble>
 where
     R::File: SystemFile,
     ensures { IfOk result (λ made. IsImportText wish.rows (string_bytes made.0.text)) }

@@ -22,7 +22,7 @@ pub fn answer<'a, R: Files + AllocGlobal + Threads + Sync>(
     rt: &R,
     screen: Screen,
     request: Map<'a>,
-) -> Result<WorkDone<'a>, Trouble<'a>>
+) -> Result<WorkDone<'a>, Trouble>
 where
     R::File: SystemFile,
     ensures { IfOk result (λ done. IsMap done.text.items) }
@@ -135,7 +135,7 @@ fn print<'a, R: Files + AllocGlobal + Threads + Sync>(
     mut image: Watched<'a, R::File>,
     cut: Cut<'_>,
     style: Style,
-) -> Result<WorkDone<'a>, Trouble<'a>>
+) -> Result<WorkDone<'a>, Trouble>
     ensures { IfOk result (λ done. IsMap done.text.items) }
 {
     match map(rt.alloc(), &mut FromRead::new(&mut image), cut, style, rt) {
@@ -151,7 +151,7 @@ fn draw<'a, R: Files + AllocGlobal + Threads + Sync>(
     svg: FileWord<'a>,
     cut: Cut<'_>,
     atomic: bool,
-) -> Result<WorkDone<'a>, Trouble<'a>>
+) -> Result<WorkDone<'a>, Trouble>
 where
     R::File: SystemFile,
     ensures { IfOk result (λ done. IsMap done.text.items) }
@@ -166,7 +166,7 @@ fn draw_to<'a, R: Files + AllocGlobal + Threads + Sync>(
     mut image: Watched<'a, R::File>,
     cut: Cut<'_>,
     target: FileTarget<'a, R::File>,
-) -> Result<WorkDone<'a>, Trouble<'a>>
+) -> Result<WorkDone<'a>, Trouble>
 where
     R::File: SystemFile,
     ensures { IfOk result (λ done. IsMap done.text.items) }

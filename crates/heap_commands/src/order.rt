@@ -19,7 +19,7 @@ use work_order::WorkOrder;
 pub fn answer<'a, R: Files + AllocGlobal + Threads + Sync>(
     rt: &R,
     request: Order<'a>,
-) -> Result<WorkDone<'a>, Trouble<'a>>
+) -> Result<WorkDone<'a>, Trouble>
     ensures { IfOk result (λ done. IsOrder done.text.items) }
 {
     let mut image = open_image(rt, request.image, request.shape)?;

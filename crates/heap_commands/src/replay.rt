@@ -20,7 +20,7 @@ use summary::{Plan, Survey};
 pub fn answer<'a, R: Files + AllocGlobal + Threads + Sync>(
     rt: &R,
     request: Replay<'a>,
-) -> Result<WorkDone<'a>, Trouble<'a>>
+) -> Result<WorkDone<'a>, Trouble>
     ensures { IfOk result (λ done. IsReplayText done.text.items) }
 {
     let inputs = ImageAndSchedule {
@@ -48,7 +48,7 @@ pub(crate) fn replay_trouble<'a, F: Drop>(
     unreplayed: Unreplayed,
     image: &Watched<'a, F>,
     schedule: &Watched<'a, F>,
-) -> Trouble<'a> {
+) -> Trouble {
     let Unreplayed { fault, line } = unreplayed;
     Trouble::from(fault).if_image(image).if_line(schedule, line)
 }

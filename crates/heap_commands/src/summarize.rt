@@ -20,7 +20,7 @@ pub fn answer<'a, R: Files + AllocGlobal + Threads + Sync>(
     rt: &R,
     screen: Screen,
     request: Summary<'a>,
-) -> Result<WorkDone<'a>, Trouble<'a>>
+) -> Result<WorkDone<'a>, Trouble>
     ensures { IfOk result (λ done. IsSummary done.text.items) }
 {
     let mut image = open_image(rt, request.image, request.shape)?;

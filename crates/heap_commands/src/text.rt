@@ -16,7 +16,7 @@ use std::thread::Threads;
 pub fn answer<'a, R: Files + AllocGlobal + Threads + Sync>(
     rt: &R,
     request: Text<'a>,
-) -> Result<WorkDone<'a>, Trouble<'a>>
+) -> Result<WorkDone<'a>, Trouble>
     ensures { IfOk result (λ done. AreLines done.text.items) }
 {
     let mut image = open_image(rt, request.image, Shape::unchanged())?;

@@ -36,7 +36,7 @@ pub fn answer<'a, R: Files + AllocGlobal + Threads + Sync>(
     rt: &R,
     screen: Screen,
     request: Timeline<'a>,
-) -> Result<WorkDone<'a>, Trouble<'a>>
+) -> Result<WorkDone<'a>, Trouble>
 where
     R::File: SystemFile,
     ensures { IfOk result (λ done. IsTimeline done.text.items) }
@@ -94,7 +94,7 @@ pub enum Form {
 }
 
 /// The failure of a request for both a drawing and a page.
-fn two_pictures<'a>(alloc: Global) -> Result<Trouble<'a>, AllocError> {
+fn two_pictures(alloc: Global) -> Result<Trouble, AllocError> {
     let text = "pcompact: --svg and --html cannot be used together\n";
     Ok(Trouble::new(Failure::usage(alloc, text)?))
 }
@@ -104,7 +104,7 @@ fn print_lanes<'a, R: Files + AllocGlobal + Threads + Sync>(
     rt: &R,
     inputs: ImageAndSchedule<'a>,
     lanes: Lanes,
-) -> Result<WorkDone<'a>, Trouble<'a>>
+) -> Result<WorkDone<'a>, Trouble>
     ensures { IfOk result (λ done. IsTimeline done.text.items) }
 {
     let Opened {
@@ -129,7 +129,7 @@ fn write_picture<'a, R: Files + AllocGlobal + Threads + Sync>(
     wanted: Wanted<'_>,
     file: FileWord<'a>,
     atomic: bool,
-) -> Result<WorkDone<'a>, Trouble<'a>>
+) -> Result<WorkDone<'a>, Trouble>
 where
     R::File: SystemFile,
     ensures { IfOk result (λ done. IsTimeline done.text.items) }
@@ -145,7 +145,7 @@ fn write_picture_to<'a, R: Files + AllocGlobal + Threads + Sync>(
     opened: Opened<'a, R::File>,
     wanted: Wanted<'_>,
     target: FileTarget<'a, R::File>,
-) -> Result<WorkDone<'a>, Trouble<'a>>
+) -> Result<WorkDone<'a>, Trouble>
 where
     R::File: SystemFile,
     ensures { IfOk result (λ done. IsTimeline done.text.items) }
@@ -174,7 +174,7 @@ fn picture_target<'a, H: Files + AllocGlobal>(
     opened: &Opened<'a, H::File>,
     file: FileWord<'a>,
     atomic: bool,
-) -> Result<FileTarget<'a, H::File>, Trouble<'a>> {
+) -> Result<FileTarget<'a, H::File>, Trouble> {
     let Opened { image, schedule } = opened;
     output_must_differ(host.alloc(), schedule.word(), file)?;
     let id = schedule.id()?;

@@ -27,7 +27,7 @@ const LINE_ROOM: usize = 27;
 pub fn answer<'a, R: Files + AllocGlobal>(
     rt: &R,
     request: Upgrade<'a>,
-) -> Result<WorkDone<'a>, Trouble<'a>>
+) -> Result<WorkDone<'a>, Trouble>
 where
     R::File: SystemFile,
     ensures { IfOk result (λ done. IsRootCount done.text.items) }

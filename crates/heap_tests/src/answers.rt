@@ -1,10 +1,10 @@
 //! The results of the calls that read and write images.
 use crate::checks::{equal, holds};
-use crate::images::devices::Trickle;
 use heap_image::{
     Fault, FromRead, Image, Intake, decode, decode_by_threads, encode, read_image,
     read_image_by_threads,
 };
+use heap_samples::Trickle;
 use std::alloc::Global;
 use std::process::Abort;
 use std::thread::Threads;

@@ -24,7 +24,7 @@ pub fn answer<'a, R: Files + AllocGlobal + Threads + Wait + Clock + Sync>(
     rt: &R,
     screen: Screen,
     request: Request<'a>,
-) -> Result<WorkDone<'a>, Trouble<'a>>
+) -> Result<WorkDone<'a>, Trouble>
 where
     R::File: FileExt + SystemFile + Sync,
     ensures prints { (name : List ℕ) → IsFor name request.entry

@@ -10,10 +10,11 @@ ghost use Rattle.command_support.specs.Failure.{failed_device, out_of_memory, st
 ghost use Rattle.command_support.specs.Json.{as_shown};
 
 use crate::commands;
+use crate::named_files::named_files;
 use command_files::{SystemFile, WorkDone};
 use command_line::{Request, Respelled, Unread};
 use command_support::{
-    FailedCall, Failure, Printable, Reason, Screen, SystemCall, Trouble, push_json,
+    FailedCall, Failure, NamedFiles, Printable, Reason, Screen, SystemCall, Trouble, push_json,
 };
 use command_times::Stats;
 use heap_image::Fault;
@@ -74,7 +75,7 @@ where
             Some(spelled) => run_respelled(rt, &spelled, screen, out, err),
             None => {
                 let failure = unread_failure(rt.alloc(), words, unread);
-                report(&Trouble::new(failure), false, err)
+                report(&Trouble::new(failure), None, err)
             }
         },
     }
@@ -130,13 +131,14 @@ where
         → (text : List ℕ) × IsImportText (rows_of request.entry) text
         × Appends (A.contents out.old) (A.contents out.new) (as_shown manner.json text) }
 {
+    let named = manner.details.then_some(named_files(&request));
     let done = match answer(rt, manner, request) {
         Ok(done) => done,
-        Err(trouble) => return report(&trouble, manner.details, err),
+        Err(trouble) => return report(&trouble, named, err),
     };
     let stats = done.stats;
     if let Err(trouble) = finish(rt, done, out) {
-        return report(&trouble, manner.details, err);
+        return report(&trouble, named, err);
     }
     if manner.measured {
         report_stats(rt, stats, err);
@@ -150,7 +152,7 @@ fn answer<'a, R: Files + AllocGlobal + Threads + Wait + Clock + Sync>(
     rt: &R,
     manner: Manner,
     request: Request<'a>,
-) -> Result<WorkDone<'a>, Trouble<'a>>
+) -> Result<WorkDone<'a>, Trouble>
 where
     R::File: FileExt + SystemFile + Sync,
     ensures prints { (name : List ℕ) → IsFor name request.entry → IfOk result (λ done.
@@ -230,7 +232,7 @@ where
         }
         Err(unread) => {
             let failure = unread_failure(rt.alloc(), words, unread);
-            report(&Trouble::new(failure), false, err)
+            report(&Trouble::new(failure), None, err)
         }
     }
 }
@@ -295,11 +297,7 @@ fn report_stats<H: Files + Threads + Clock, B: Write>(host: &H, stats: Option<St
 }
 
 /// Prints the text of a command, and then renames its files into place.
-fn finish<'a, H: Files, A: Write>(
-    host: &H,
-    done: WorkDone<'a>,
-    out: &mut A,
-) -> Result<(), Trouble<'a>>
+fn finish<H: Files, A: Write>(host: &H, done: WorkDone<'_>, out: &mut A) -> Result<(), Trouble>
     ensures shown { OnOk result (Appends (A.contents out.old) (A.contents out.new) done.entry.text.items) }
     ensures fault { IfErr result (λ trouble. trouble.failure ≡ failed_device) }
 {
@@ -321,9 +319,9 @@ fn show<A: Write>(text: &[u8], out: &mut A) -> io::Result<()>
     out.flush()
 }
 
-/// Prints to `err` why the program fails, with details if `verbose`, and returns the exit status: 2 for wrong usage,
-/// else 1. The status doesn't depend on whether the writes succeed.
-pub fn report<B: Write>(trouble: &Trouble<'_>, verbose: bool, err: &mut B) -> u8
+/// Prints to `err` why the program fails, with details if there are the names of files for these, and returns the exit
+/// status: 2 for wrong usage, else 1. The status doesn't depend on whether the writes succeed.
+pub fn report<B: Write>(trouble: &Trouble, named: Option<NamedFiles<'_>>, err: &mut B) -> u8
     ensures { result ≡ status_of trouble.now.failure }
 {
     let _ = match &trouble.failure {
@@ -341,8 +339,8 @@ pub fn report<B: Write>(trouble: &Trouble<'_>, verbose: bool, err: &mut B) -> u8
             )
         }
     };
-    if verbose {
-        let _ = trouble.print_details(err);
+    if let Some(named) = named {
+        let _ = trouble.print_details(named, err);
     }
     let _ = err.flush();
     trouble.failure.status()

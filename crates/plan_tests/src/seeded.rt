@@ -5,44 +5,30 @@ ghost use Rattle.heap_image.specs.HeapImage.{region_count};
 use crate::checks::equal;
 use crate::known_heaps::image_of;
 use heap_image::{Fault, Image};
-use heap_samples::Object;
+use heap_samples::{Object, Seed};
 use mark_bitmap::Marks;
 use std::alloc::{AllocError, Global};
 use std::test::Fail;
 use std::thread::Threads;
 use summary::{Plan, RegionData, Survey, compact_plainly};
 
-/// A pseudo-random generator with a fixed seed.
-#[derive(Drop)]
-struct Seed(u64);
-
-impl Seed {
-    fn below(&mut self, bound: u64) -> u64 {
-        self.0 = self
-            .0
-            .wrapping_mul(6_364_136_223_846_793_005)
-            .wrapping_add(1_442_695_040_888_963_407);
-        (self.0 >> 33).checked_rem(bound).unwrap_or(0)
+/// The number of dead words before the next object: mostly none, and at times up to three regions.
+fn gap(seed: &mut Seed, region_words: u64) -> u64 {
+    match seed.below(6) {
+        0 => seed.below(region_words.wrapping_mul(3)),
+        1 | 2 => seed.below(4),
+        _ => 0,
     }
+}
 
-    /// The number of dead words before the next object: mostly none, and at times up to three regions.
-    fn gap(&mut self, region_words: u64) -> u64 {
-        match self.below(6) {
-            0 => self.below(region_words.wrapping_mul(3)),
-            1 | 2 => self.below(4),
-            _ => 0,
-        }
-    }
-
-    /// The number of words of the next object: often one, and at times up to three regions.
-    fn size(&mut self, region_words: u64) -> u64 {
-        let more = match self.below(6) {
-            0 => self.below(region_words.wrapping_mul(3)),
-            1 | 2 => 0,
-            _ => self.below(region_words),
-        };
-        more.wrapping_add(1)
-    }
+/// The number of words of the next object: often one, and at times up to three regions.
+fn size(seed: &mut Seed, region_words: u64) -> u64 {
+    let more = match seed.below(6) {
+        0 => seed.below(region_words.wrapping_mul(3)),
+        1 | 2 => 0,
+        _ => seed.below(region_words),
+    };
+    more.wrapping_add(1)
 }
 
 /// The objects of a heap of `len` words.
@@ -55,8 +41,8 @@ fn seeded_objects(
     let mut objects = Vec::new(alloc);
     let mut end: u64 = 0;
     for _ in 0..len {
-        let begin = end.wrapping_add(seed.gap(region_words));
-        let size = seed.size(region_words);
+        let begin = end.wrapping_add(gap(&mut seed, region_words));
+        let size = size(&mut seed, region_words);
         end = begin.wrapping_add(size);
         if end > len {
             break;

@@ -9,6 +9,7 @@ use claim_board::{
     Board, Pass, appended_calls_are_gained, one_more_source_is_drained,
     swept_tickets_have_none_left,
 };
+use heap_samples::Seed;
 use scheduler::{GivenMoves, Moves};
 use std::alloc::{AllocError, Global};
 use std::sync::atomic::{AtomicU64, Ordering};
@@ -112,20 +113,6 @@ const REGIONS: u32 = 150;
 
 /// The most sweeps of a worker.
 const SWEEPS: u32 = 1_000_000;
-
-/// Pseudo-random numbers, the same in each run.
-#[derive(Drop)]
-struct Seed(u64);
-
-impl Seed {
-    fn below(&mut self, bound: u64) -> u64 {
-        self.0 = self
-            .0
-            .wrapping_mul(6_364_136_223_846_793_005)
-            .wrapping_add(1_442_695_040_888_963_407);
-        (self.0 >> 33).checked_rem(bound).unwrap_or(0)
-    }
-}
 
 /// For each region, whether it is to be filled; most are.
 fn seeded_fills(alloc: Global, seed: &mut Seed) -> Result<Vec<bool>, AllocError> {

@@ -1,53 +1,6 @@
-//! Devices that read and write in small pieces, or fail after a number of bytes.
+//! A writer that compares, and fails after a number of bytes.
 use std::io;
-use std::io::{Read, Write};
-
-/// A reader that returns at most `step` bytes at a time, and fails after `limit` bytes.
-#[derive(Drop)]
-pub(crate) struct Trickle<'a> {
-    bytes: &'a [u8],
-    step: usize,
-    limit: usize,
-}
-
-impl<'a> Trickle<'a> {
-    /// Returns all bytes, `step` at a time.
-    pub(crate) fn of(bytes: &'a [u8], step: usize) -> Trickle<'a> {
-        Trickle {
-            bytes,
-            step,
-            limit: usize::MAX,
-        }
-    }
-
-    /// Fails after `limit` bytes.
-    pub(crate) fn until(bytes: &'a [u8], limit: usize) -> Trickle<'a> {
-        Trickle {
-            bytes,
-            step: 7,
-            limit,
-        }
-    }
-
-    /// The number of unread bytes.
-    pub(crate) fn left(&self) -> usize {
-        self.bytes.len()
-    }
-}
-
-impl Read for Trickle<'_> {
-    fn read(&mut self, buf: &mut [u8]) -> io::Result<usize> {
-        if self.limit == 0 {
-            return Err(io::Error::from(io::ErrorKind::Other));
-        }
-        let wanted = buf.len().min(self.step).min(self.limit);
-        let (taken, rest) = self.bytes.split_at(wanted.min(self.bytes.len()));
-        buf[..taken.len()].copy_from_slice(taken);
-        self.bytes = rest;
-        self.limit -= taken.len();
-        Ok(taken.len())
-    }
-}
+use std::io::Write;
 
 /// A writer that compares what it receives with a text. It accepts at most `step` bytes at a time and `limit` in all;
 /// then it fails, or accepts 0.

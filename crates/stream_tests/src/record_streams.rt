@@ -1,12 +1,12 @@
 //! Recorded collections from bytes to bytes: both texts, and how far they are written if a device fails.
 use crate::checks::{equal, equal_at, holds};
-use crate::devices::{Checked, Trickle};
+use crate::devices::Checked;
 use crate::memory::are_right;
 use crate::recordings::BASE_SCHEDULE;
 use crate::texts::{Texts, figures, slid};
 use collector::{Figures, OpenGate, Workers, record_stream};
 use heap_image::{Fault, FromRead, ToWrite};
-use heap_samples::Base;
+use heap_samples::{Base, Trickle};
 use std::alloc::Global;
 use std::sync::Wait;
 use std::test::Fail;

@@ -1,11 +1,11 @@
 //! Collections from bytes to bytes: devices that read and write in small pieces or fail at any byte, and nothing
 //! written before a collection has succeeded.
 use crate::checks::equal;
-use crate::devices::{Checked, Trickle};
+use crate::devices::Checked;
 use crate::texts::{Texts, figures, slid, with_prefix, without_the_last};
 use collector::{Figures, Gate, OpenGate, collect_stream};
 use heap_image::{Fault, FromRead, Intake, Outlet, ToWrite};
-use heap_samples::Base;
+use heap_samples::{Base, Trickle};
 use std::alloc::Global;
 use std::io;
 use std::io::Write;
@@ -38,7 +38,7 @@ fn streamed<R: Threads + Wait + Sync>(
     Stream {
         answer,
         read_failed,
-        unread: reader.into_inner().left(),
+        unread: reader.into_inner().bytes.len(),
         write_failed,
         unwritten: writer.into_inner().unwritten(),
     }

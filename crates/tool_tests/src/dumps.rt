@@ -4,9 +4,8 @@ use crate::checks::equal;
 use crate::dump_writer::Writer;
 use heap_dump::{ImportError, Imported, Options, Problem, import};
 use heap_image::{FromRead, Image, Intake, Version};
+use heap_samples::Trickle;
 use std::alloc::{AllocError, Global};
-use std::io;
-use std::io::Read;
 use std::test::Fail;
 
 /// Regions of eight words, and allowance 5.
@@ -87,30 +86,6 @@ fn has_words(image: &Image, words: &[u64]) -> bool {
     all
 }
 
-/// A reader that gives one byte at a time, and fails after `limit` calls.
-#[derive(Drop)]
-struct Trickle<'a> {
-    bytes: &'a [u8],
-    limit: usize,
-}
-
-impl Read for Trickle<'_> {
-    fn read(&mut self, buf: &mut [u8]) -> io::Result<usize> {
-        if self.limit == 0 {
-            return Err(io::Error::from(io::ErrorKind::Other));
-        }
-        self.limit -= 1;
-        match (self.bytes.split_first(), buf.first_mut()) {
-            (Some((byte, rest)), Some(place)) => {
-                *place = *byte;
-                self.bytes = rest;
-                Ok(1)
-            }
-            _ => Ok(0),
-        }
-    }
-}
-
 /// Whether a dump gives the words of the sample if the second reading is slow and fails after `limit` bytes. None if
 /// the failure of the device is reported.
 fn gives_sample_slowly(
@@ -118,11 +93,12 @@ fn gives_sample_slowly(
     bytes: &[u8],
     limit: usize,
 ) -> Result<Option<bool>, ImportError> {
-    let mut first = FromRead::new(Trickle {
+    let mut first = FromRead::new(Trickle::of(bytes, 1));
+    let mut second = FromRead::new(Trickle {
         bytes,
-        limit: usize::MAX,
+        step: 1,
+        limit,
     });
-    let mut second = FromRead::new(Trickle { bytes, limit });
     match import(alloc, &mut first, &mut second, SMALL) {
         Ok(Imported { image, .. }) => {
             Ok(Some(has_words(&image, &SAMPLE_WORDS) && !second.failed()))

@@ -11,7 +11,7 @@ const STANDARD_INPUT: &str = "/proc/self/fd/0";
 const STANDARD_OUTPUT: &str = "/proc/self/fd/1";
 
 /// A file of a command, by the name that the command's usage gives it.
-#[derive(Clone, Copy)]
+#[derive(Clone, Copy, PartialEq, Eq)]
 pub enum Role {
     Image,
     Out,

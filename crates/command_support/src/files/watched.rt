@@ -51,13 +51,13 @@ impl<'a, F: Drop> Watched<'a, F> {
     pub fn open<H: Files<File = F>>(
         host: &H,
         word: FileWord<'a>,
-    ) -> Result<Watched<'a, F>, Trouble<'a>> {
+    ) -> Result<Watched<'a, F>, Trouble> {
         let file = on_file(word, SystemCall::Open, fs::open(host, word.path_to_read()))?;
         Ok(Watched::new(word, file))
     }
 
     /// Which file of the system it is. Fault 13 if the call fails.
-    pub fn id(&self) -> Result<FileId, Trouble<'a>>
+    pub fn id(&self) -> Result<FileId, Trouble>
     where
         F: OpenFile,
     {
@@ -65,7 +65,7 @@ impl<'a, F: Drop> Watched<'a, F> {
     }
 
     /// The file's metadata. Fault 13 if the call fails.
-    pub fn metadata(&self) -> Result<Metadata, Trouble<'a>>
+    pub fn metadata(&self) -> Result<Metadata, Trouble>
     where
         F: OpenFile,
     {
@@ -75,7 +75,7 @@ impl<'a, F: Drop> Watched<'a, F> {
     /// How a command writes that reads this file: a file that isn't there yet is made for its owner alone if this one is.
     ///
     /// Fault 13 if the call for its metadata fails.
-    pub fn writing(&self, atomic: bool) -> Result<Writing, Trouble<'a>>
+    pub fn writing(&self, atomic: bool) -> Result<Writing, Trouble>
     where
         F: OpenFile,
     {
@@ -150,7 +150,7 @@ impl<F: OpenFile + Drop> Watched<'_, F> {
 
 impl<'a, F: OpenFile + Seek + Drop> Watched<'a, F> {
     /// Cuts the file at the present position: another process may have written more. Fault 13 if a call fails.
-    pub fn cut(&mut self) -> Result<(), Trouble<'a>> {
+    pub fn cut(&mut self) -> Result<(), Trouble> {
         let end = on_file(self.word, SystemCall::Write, self.file.stream_position())?;
         on_file(self.word, SystemCall::Empty, self.cut_at(end))
     }

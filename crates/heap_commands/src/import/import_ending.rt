@@ -16,7 +16,7 @@ pub(crate) fn finished<'a, H: Files + AllocGlobal>(
     made: ImportMade,
     image: Late<'a, '_, H>,
     list: Option<FileTarget<'a, H::File>>,
-) -> Result<WorkDone<'a>, Trouble<'a>>
+) -> Result<WorkDone<'a>, Trouble>
 where
     H::File: SystemFile,
     ensures { IfOk result (λ done. done.text.items ≡ string_bytes made.text) }
@@ -33,7 +33,7 @@ fn finished_with_list<'a, H: Files + AllocGlobal>(
     made: ImportMade,
     image: Late<'a, '_, H>,
     list: FileTarget<'a, H::File>,
-) -> Result<WorkDone<'a>, Trouble<'a>>
+) -> Result<WorkDone<'a>, Trouble>
 where
     H::File: SystemFile,
     ensures { IfOk result (λ done. done.text.items ≡ string_bytes made.text) }
@@ -55,7 +55,7 @@ fn begin_list<'a, H: Files + AllocGlobal>(
     host: &H,
     image: Late<'a, '_, H>,
     list: FileTarget<'a, H::File>,
-) -> Result<(Output<'a, H::File>, Output<'a, H::File>), Trouble<'a>>
+) -> Result<(Output<'a, H::File>, Output<'a, H::File>), Trouble>
 where
     H::File: SystemFile,
 {
@@ -75,10 +75,10 @@ where
 /// The error of an import that failed before its image was complete. A file that wasn't begun is unchanged.
 pub(crate) fn unfinished<'a, H: Files + AllocGlobal>(
     host: &H,
-    trouble: Trouble<'a>,
+    trouble: Trouble,
     image: Late<'a, '_, H>,
     list: Option<FileTarget<'a, H::File>>,
-) -> Trouble<'a>
+) -> Trouble
 where
     H::File: SystemFile,
 {
@@ -89,10 +89,10 @@ where
 }
 
 /// Writes the list of objects to its file.
-fn write_list<'a, F: Write + Drop>(
+fn write_list<F: Write + Drop>(
     listed: Option<(ListedImport, String)>,
-    list: &mut Watched<'a, F>,
-) -> Result<(), Trouble<'a>> {
+    list: &mut Watched<'_, F>,
+) -> Result<(), Trouble> {
     let Some((import, room)) = listed else {
         return Ok(());
     };

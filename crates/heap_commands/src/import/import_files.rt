@@ -34,7 +34,7 @@ impl<'a, F: OpenFile + Drop> ImportFiles<'a, F> {
     pub(crate) fn open<H: Files<File = F> + AllocGlobal>(
         host: &H,
         request: &Import<'a>,
-    ) -> Result<ImportFiles<'a, F>, Trouble<'a>> {
+    ) -> Result<ImportFiles<'a, F>, Trouble> {
         let word = FileWord::new(Role::Dump, request.dump);
         let image = FileWord::new(Role::Image, request.image);
         if !request.atomic {
@@ -67,7 +67,7 @@ fn list_target<'a, H: Files + AllocGlobal>(
     dump: &Watched<'a, H::File>,
     image: &FileTarget<'a, H::File>,
     request: &Import<'a>,
-) -> Result<Option<FileTarget<'a, H::File>>, Trouble<'a>> {
+) -> Result<Option<FileTarget<'a, H::File>>, Trouble> {
     let Some(name) = request.classes else {
         return Ok(None);
     };
@@ -92,7 +92,7 @@ pub(crate) fn late_beside<'a, 'h, H: Files + AllocGlobal>(
     host: &'h H,
     image: FileTarget<'a, H::File>,
     list: Option<&FileTarget<'a, H::File>>,
-) -> Result<Late<'a, 'h, H>, Trouble<'a>>
+) -> Result<Late<'a, 'h, H>, Trouble>
 where
     H::File: SystemFile,
 {

@@ -6,35 +6,13 @@ use heap_image::{
     Failed, Fault, FromRead, Image, Intake, Outlet, ToWrite, decode_by_threads, encode, give_all,
     read_image_by_threads, write_image,
 };
-use heap_samples::{Base, image_text};
+use heap_samples::{Base, Trickle, image_text};
 use std::alloc::Global;
 use std::io;
-use std::io::{Read, Write};
+use std::io::Write;
 use std::process::Abort;
 use std::test::Fail;
 use std::thread::Threads;
-
-/// A reader that gives at most `step` bytes at a time, and fails once it has given `limit`.
-#[derive(Drop)]
-pub struct Trickle<'a> {
-    pub bytes: &'a [u8],
-    pub step: usize,
-    pub limit: usize,
-}
-
-impl Read for Trickle<'_> {
-    fn read(&mut self, buf: &mut [u8]) -> io::Result<usize> {
-        if self.limit == 0 {
-            return Err(io::Error::from(io::ErrorKind::Other));
-        }
-        let wanted = buf.len().min(self.step).min(self.limit);
-        let (taken, rest) = self.bytes.split_at(wanted.min(self.bytes.len()));
-        buf[..taken.len()].copy_from_slice(taken);
-        self.bytes = rest;
-        self.limit -= taken.len();
-        Ok(taken.len())
-    }
-}
 
 /// A writer that takes at most `step` bytes at a time, and `limit` in all. Then it fails, or takes none.
 #[derive(Drop)]

@@ -1,12 +1,11 @@
 //! Tests of valid and invalid images with roots.
-use super::devices::Trickle;
 use super::texts::base_text;
 use crate::answers::{are_right, comes_through, expect_fault, fault_of, is_text};
 use crate::checks::{equal, equal_words, holds, holds_at};
 use heap_image::{
     Fault, FromRead, Version, decode_by_threads, header, mark_from_roots, read_image_by_threads,
 };
-use heap_samples::{BASE_LIVE, BASE_ROOTS, BASE_WORDS, Base, Settings, rooted_text};
+use heap_samples::{BASE_LIVE, BASE_ROOTS, BASE_WORDS, Base, Settings, Trickle, rooted_text};
 use std::alloc::{AllocError, Global};
 use std::process::Abort;
 use std::test::Fail;

@@ -1,5 +1,5 @@
 //! Tests of the upgrade to versions 2 and 3.
-use super::devices::{Full, Trickle};
+use super::devices::Full;
 use super::roots::text_with_roots;
 use super::texts::base_text;
 use crate::answers::{are_right, is_text};
@@ -8,7 +8,7 @@ use heap_image::{
     Fault, FromRead, Image, Intake, Outlet, ToWrite, Version, decode_by_threads, upgrade,
     upgrade_stream, upgrade_to,
 };
-use heap_samples::{BASE_LIVE, BASE_WORDS, Base, Settings, image_text, rooted_text};
+use heap_samples::{BASE_LIVE, BASE_WORDS, Base, Settings, Trickle, image_text, rooted_text};
 use std::alloc::{AllocError, Global};
 use std::process::Abort;
 use std::test::Fail;

@@ -4,26 +4,12 @@ ghost use Rattle.heap_image.specs.HeapImage.{heap_words};
 
 use super::plain_marks;
 use crate::checks::holds_at;
-use heap_samples::Object;
+use heap_samples::{Object, Seed};
 use mark_bitmap::Marks;
 use std::alloc::{AllocError, Global};
 use std::process::Abort;
 use std::test::Fail;
 use std::thread::Threads;
-
-/// A pseudo-random generator with a fixed seed.
-#[derive(Drop)]
-struct Seed(u64);
-
-impl Seed {
-    fn below(&mut self, bound: u64) -> u64 {
-        self.0 = self
-            .0
-            .wrapping_mul(6_364_136_223_846_793_005)
-            .wrapping_add(1_442_695_040_888_963_407);
-        (self.0 >> 33).checked_rem(bound).unwrap_or(0)
-    }
-}
 
 /// Objects in a heap of `len` words: every second one has one word, and two of three have no dead words before them.
 fn seeded_objects(alloc: Global, mut seed: Seed, len: u64) -> Result<Vec<Object>, AllocError> {

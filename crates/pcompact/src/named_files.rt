@@ -1,0 +1,49 @@
+use command_line::Request;
+use command_support::{NamedFiles, Role};
+
+/// The files that a request names, by their roles.
+pub fn named_files<'a>(request: &Request<'a>) -> NamedFiles<'a> {
+    match request {
+        Request::Board | Request::Show(_) => NamedFiles::none(),
+        Request::Summary(call) => NamedFiles::one(Role::Image, call.image),
+        Request::Generate(call) => NamedFiles::one(Role::Image, call.image),
+        Request::Order(call) => NamedFiles::one(Role::Image, call.image),
+        Request::Text(call) => NamedFiles::one(Role::Image, call.image),
+        Request::Map(call) => {
+            NamedFiles::one(Role::Image, call.image).with(Role::Drawing, call.svg)
+        }
+        Request::Collect(call) => {
+            NamedFiles::two((Role::Image, call.image), (Role::Out, call.out))
+        }
+        Request::Upgrade(call) => {
+            NamedFiles::two((Role::Image, call.image), (Role::Out, call.out))
+        }
+        Request::Verify(call) => {
+            NamedFiles::two((Role::Before, call.before), (Role::After, call.after))
+        }
+        Request::Replay(call) => {
+            NamedFiles::two((Role::Image, call.image), (Role::Schedule, call.schedule))
+        }
+        Request::Assemble(call) => {
+            NamedFiles::two((Role::Text, call.text), (Role::Image, call.image))
+        }
+        Request::Record(call) => {
+            NamedFiles::two((Role::Image, call.image), (Role::Out, call.out)).with(
+                Role::Schedule,
+                Some(call.schedule),
+            )
+        }
+        Request::Import(call) => {
+            NamedFiles::two((Role::Dump, call.dump), (Role::Image, call.image)).with(
+                Role::Drawing,
+                call.classes,
+            )
+        }
+        Request::Timeline(call) => {
+            NamedFiles::two((Role::Image, call.image), (Role::Schedule, call.schedule)).with(
+                Role::Drawing,
+                call.svg.or(call.html),
+            )
+        }
+    }
+}
