@@ -1,6 +1,6 @@
 //! The lines of `verify --explain`.
 ghost use Rattle.std.specs.Prelude.{◌≤◌, ◌*◌, ◌^◌, length};
-ghost use Rattle.heap_image.specs.HeapImage.{AreBlocks};
+ghost use Rattle.object_heap.specs.HeapImage.{AreBlocks};
 
 use collector::{
     ExplainedWord, Explanation, Found, Lead, Moved, OtherLive, OtherRoot, Part, explain,

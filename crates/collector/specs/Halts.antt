@@ -1,6 +1,6 @@
 -- Why workers end before all regions to fill are settled.
 use Rattle.std.specs.Prelude.{◌≡◌, ℕ, ◌<◌, ◌⊎◌, Option, Some, None, Result, Ok, Err}
-use Rattle.heap_image.specs.HeapImage.{HeapImage}
+use Rattle.object_heap.specs.HeapImage.{HeapImage}
 use Rattle.heap_image.specs.declared.fault.Fault.{Fault}
 use Rattle.heap_image.specs.declared.fault.Fault.TheVariants.{Gate}
 use Rattle.summary.specs.RegionData.{fill_count}

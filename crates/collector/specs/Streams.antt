@@ -1,7 +1,7 @@
 -- A collection from bytes to bytes.
 use Rattle.std.specs.Prelude.{◌≡◌, ℕ, List, Option}
 use Rattle.std.specs.Io.KnownBytes.{Appends}
-use Rattle.heap_image.specs.HeapImage.{HeapImage}
+use Rattle.object_heap.specs.HeapImage.{HeapImage}
 use Rattle.heap_image.specs.ImageText.{text}
 use Rattle.heap_image.specs.Reading.{IsRead}
 use Rattle.heap_image.specs.Outgoing.{TakesBeginning}

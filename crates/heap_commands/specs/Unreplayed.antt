@@ -1,7 +1,7 @@
 -- Why a schedule isn't replayed on an image, where a device gives the text of each.
 use Rattle.std.specs.Prelude.{◌≡◌, ◌⊎◌, ℕ, List, Option, IfSome}
 use Rattle.std.specs.Io.KnownBytes.{Consumes}
-use Rattle.heap_image.specs.HeapImage.{HeapImage, IsValid}
+use Rattle.object_heap.specs.HeapImage.{HeapImage, IsValid}
 use Rattle.heap_image.specs.ImageText.{text}
 use Rattle.heap_image.specs.Refusals.{IsOfReading, IsReason}
 use Rattle.heap_image.specs.declared.fault.Fault.{Fault}

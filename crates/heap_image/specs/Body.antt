@@ -2,7 +2,7 @@
 use Rattle.std.specs.Prelude.{◌≡◌, ℕ, ◌+◌, ◌*◌, ◌^◌, ◌<◌, ◌++◌, All, Option, List, length}
 use Rattle.std.specs.List.{concat}
 use Rattle.std.specs.Io.KnownBytes.{Consumes}
-use Rattle.heap_image.specs.HeapImage.{AreBlocks}
+use Rattle.object_heap.specs.HeapImage.{AreBlocks}
 use Rattle.heap_image.specs.ImageText.{numbers}
 use Rattle.heap_image.specs.declared.io.body.Body.{Body}
 use Rattle.heap_image.specs.declared.io.front.body_size.BodySize.{BodySize}

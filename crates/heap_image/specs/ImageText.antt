@@ -1,18 +1,15 @@
 -- The text of an image, in bytes, and the first fault of a byte list.
-use Rattle.std.specs.Prelude.{◌≡◌, ℕ, ◌+◌, ◌-◌, ◌*◌, ◌/◌, ◌%◌, ◌^◌, ◌<◌, Bool, true, false, not, ◌&&◌, ◌||◌, nat_lt, nat_le, ◌==◌, if◌then◌else◌, List, [], ◌∷◌, ◌++◌, length, map, take, drop, slice_index, slice_range, codes, All, Option, None, Some, option_map, find, flat_map, zip}
+use Rattle.std.specs.Prelude.{◌≡◌, ℕ, ◌+◌, ◌*◌, ◌/◌, ◌%◌, ◌^◌, ◌<◌, Bool, true, false, not, ◌||◌, nat_lt, ◌==◌, if◌then◌else◌, List, [], ◌∷◌, ◌++◌, length, map, take, slice_range, All, Option, None, Some, option_map, flat_map}
 use Rattle.std.specs.List.{range_with_len}
 use Rattle.std.specs.Str.{bytes_eq}
 use Rattle.std.specs.Int.{w32, w64, to_le_bytes, from_le_bytes}
-use Rattle.heap_image.specs.Version.{has_roots, max_region_log, max_regions, max_words, number_of}
-use Rattle.heap_image.specs.declared.version.Version.{Version}
-use Rattle.heap_image.specs.declared.version.Version.TheVariants.{One, Two, Three}
-use Rattle.heap_image.specs.HeapImage.{HeapImage, IsValid, heap_words, references_at, end_of, reference_at, is_null_or_live, is_unsound, reachable, roots_of, roots_or}
+use Rattle.object_heap.specs.Version.{magic, has_roots, max_region_log, max_regions, max_words}
+use Rattle.object_heap.specs.declared.version.Version.{Version}
+use Rattle.object_heap.specs.declared.version.Version.TheVariants.{One, Two, Three}
+use Rattle.object_heap.specs.HeapImage.{HeapImage, IsValid, heap_words, reachable, roots_or}
+use Rattle.object_heap.specs.ObjectFaults.{misplaced_index, misplaced_root, unsound_header, overlapping, dangling}
 use Rattle.heap_image.specs.declared.fault.Fault.{Fault}
 use Rattle.heap_image.specs.declared.fault.Fault.TheVariants.{TruncatedHeader, Magic, RegionLog, Length, TruncatedBody, LiveOrder, Header, Overlap, Reference, Trailing, Root}
-
--- PCHEAP0 and the digit of the version
-abbrev pub magic : Version → List ℕ
-magic version = codes "PCHEAP0" ++ (48 + number_of version) ∷ []
 
 -- The first 32 bytes of a text. Numbers are little endian.
 abbrev pub front : Version → (region_log count words allowance : ℕ) → List ℕ
@@ -90,41 +87,6 @@ module _ (bytes : List ℕ) where
 
   abbrev pub encoded_image : HeapImage
   encoded_image = from_tail encoded_version encoded_numbers
-
--- the i-th address is outside a heap of this number of words or not above the one before it
-abbrev pub is_misplaced : ℕ → List ℕ → ℕ → Bool
-is_misplaced words live i = nat_le words (slice_index live i)
-    || (nat_lt 0 i && nat_le (slice_index live i) (slice_index live (i - 1)))
-
--- the least such index
-abbrev pub misplaced_index : ℕ → List ℕ → Option ℕ
-misplaced_index words live = find (is_misplaced words live) (range_with_len 0 (length live))
-
--- Faults of the objects of an image.
-module _ (image : HeapImage) where
-  -- the least index of a root that is above the number of words
-  abbrev pub misplaced_root : Option ℕ
-  misplaced_root = find (λ i. nat_lt (heap_words image) (slice_index (roots_of image) i)) (range_with_len 0 (length (roots_of image)))
-
-  -- the least live address without a sound header
-  abbrev pub unsound_header : Option ℕ
-  unsound_header = find (is_unsound image) image.live
-
-  -- the least address below the end of the object before it
-  abbrev pub overlapping : Option ℕ
-  overlapping = option_map (λ p. p.1) (find (λ p. nat_lt p.1 (end_of image p.0)) (zip image.live (drop 1 image.live)))
-
-  -- the fields of an object, from 0, each with its address
-  abbrev pub fields_of : ℕ → List (ℕ × ℕ)
-  fields_of a = map (λ f. (a, f)) (range_with_len 0 (references_at image a))
-
-  -- the reference in a field is neither null nor to a live object
-  abbrev pub is_dangling : ℕ × ℕ → Bool
-  is_dangling p = not (is_null_or_live image (reference_at image p.0 p.1))
-
-  -- the least address, and in it the least field, with such a reference
-  abbrev pub dangling : Option (ℕ × ℕ)
-  dangling = find is_dangling (flat_map fields_of image.live)
 
 abbrev pub fault_if : Bool → Fault → Option Fault
 fault_if true f = Some f

@@ -1,9 +1,9 @@
 -- Which objects of a live list are sound.
 use Rattle.std.specs.Prelude.{◌≡◌, List, ℕ, ◌+◌, ◌*◌, ◌<◌, ◌≤◌, IsTrue, Option, None, MatchOption, length, slice_index}
 use denote.Ref.{Bor}
-use Rattle.heap_image.specs.HeapImage.{HeapImage, HasSoundHeader, heap_words, size_at, end_of, references_at, reference_at, is_null_or_live}
-use Rattle.heap_image.specs.Bits.{MarkBegins}
-use Rattle.heap_image.specs.ImageText.{unsound_header, dangling}
+use Rattle.object_heap.specs.HeapImage.{HeapImage, HasSoundHeader, heap_words, size_at, end_of, references_at, reference_at, is_null_or_live}
+use Rattle.object_heap.specs.Bits.{MarkBegins}
+use Rattle.object_heap.specs.ObjectFaults.{unsound_header, dangling}
 
 -- the i-th live object has a sound header, ends before the next one begins, and each of its references is null or leads
 -- to a listed object

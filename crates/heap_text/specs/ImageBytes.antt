@@ -1,6 +1,6 @@
 -- What is left of the bytes of an image.
 use Rattle.std.specs.Prelude.{◌≡◌, ℕ, List, ◌++◌, drop, flat_map, reverse}
-use Rattle.heap_image.specs.HeapImage.{HeapImage}
+use Rattle.object_heap.specs.HeapImage.{HeapImage}
 use Rattle.heap_image.specs.ImageText.{numbers, text}
 use Rattle.heap_text.specs.declared.image_bytes.ImageBytes.{ImageBytes}
 

@@ -6,7 +6,7 @@ use Rattle.std_heap.specs.contracts.GlobalAllocator.TheImpl.{ghosts}
 use Rattle.std_alloc.specs.Box.Ownership.{box_owns}
 use Rattle.heap_image.specs.declared.fault.Fault.{Fault}
 use Rattle.heap_image.specs.declared.fault.Fault.TheVariants.{Length, Memory, Workers}
-use Rattle.heap_image.specs.HeapImage.{HeapImage}
+use Rattle.object_heap.specs.HeapImage.{HeapImage}
 use Rattle.heap_image.specs.ImageText.{first_fault}
 use Rattle.fill.specs.FillFaults.{IsOverwritten}
 use Rattle.collector.specs.declared.session.share.Share.{Share}

@@ -2,7 +2,7 @@
 use Rattle.std.specs.Prelude.{◌≡◌, ℕ, ◌+◌, ◌-◌, ◌*◌, ◌<◌, Bool, ◌||◌, nat_lt, ◌==◌, List, length, map, count_by, slice_index}
 use Rattle.std.specs.List.{range_with_len}
 use Rattle.std.specs.Int.{bit_at}
-use Rattle.heap_image.specs.HeapImage.{HeapImage, IsValid, is_live_word}
+use Rattle.object_heap.specs.HeapImage.{HeapImage, IsValid, is_live_word}
 use Rattle.mark_bitmap.specs.Marks.{bit_words}
 use Rattle.summary.specs.NewAddresses.{prefix_end}
 

@@ -26,7 +26,7 @@ impl Drop for Survey {
 
 impl Model for Survey {
     ghost use Rattle.std.specs.Prelude.{◌≡◌};
-    ghost use Rattle.heap_image.specs.HeapImage.{HeapImage};
+    ghost use Rattle.object_heap.specs.HeapImage.{HeapImage};
 
     ghost Value = { HeapImage };
 

@@ -2,7 +2,7 @@
 use Rattle.std.proofs.Common.{◌≡◌, ℕ, ◌*◌, ◌^◌, ◌++◌, List, length, length-append, ap, ◌∙◌, arith}
 use Rattle.std.specs.List.{concat}
 use Rattle.heap_image.specs.Body.{body_words}
-use Rattle.heap_image.specs.HeapImage.{AreBlocks}
+use Rattle.object_heap.specs.HeapImage.{AreBlocks}
 use Rattle.heap_image.specs.ImageText.{numbers}
 use Rattle.heap_image.specs.declared.io.body.Body.{Body}
 use Rattle.heap_image.specs.declared.io.front.body_size.BodySize.{BodySize}

@@ -8,11 +8,12 @@ use Rattle.std.specs.Option.{is_some}
 use Rattle.std.specs.List.{range_with_len}
 use Rattle.heap_image.specs.Reading.{HasFittingNumbers}
 use Rattle.heap_image.specs.declared.fault.Fault.TheVariants.{Root}
-use Rattle.heap_image.specs.HeapImage.{HeapImage, IsValid, AreRoots, heap_words, with_live, reachable, roots_or}
-use Rattle.heap_image.specs.ImageText.{text, listed_text, with_tail, from_tail, live_list_faults, first_some, misplaced_root}
-use Rattle.heap_image.specs.Version.{Allows, has_roots}
-use Rattle.heap_image.specs.declared.version.Version.{Version}
-use Rattle.heap_image.specs.declared.version.Version.TheVariants.{One, Two, Three}
+use Rattle.object_heap.specs.HeapImage.{HeapImage, IsValid, AreRoots, heap_words, with_live, reachable, roots_or}
+use Rattle.heap_image.specs.ImageText.{text, listed_text, with_tail, from_tail, live_list_faults, first_some}
+use Rattle.object_heap.specs.ObjectFaults.{misplaced_root}
+use Rattle.object_heap.specs.Version.{Allows, has_roots}
+use Rattle.object_heap.specs.declared.version.Version.{Version}
+use Rattle.object_heap.specs.declared.version.Version.TheVariants.{One, Two, Three}
 use Rattle.heap_image.proofs.Lemmas.TextLaws.{reachable-words}
 use Rattle.heap_image.proofs.Lemmas.Faultless.{AllNone}
 use Rattle.heap_image.proofs.Lemmas.LiveListFaults.{AllNone-from_first_some, map_None, find_None-at, sound_live_list}

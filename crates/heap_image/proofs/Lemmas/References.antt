@@ -5,7 +5,7 @@ use Rattle.std.proofs.lemmas.List.Folds.{list_any_none}
 use Rattle.std.proofs.lemmas.List.Elements.{All-from_get_or, All-get_or}
 use Rattle.std.specs.Prelude.{All}
 use Rattle.std.specs.List.{list_any}
-use Rattle.heap_image.specs.Bits.{MarkBegins, has}
+use Rattle.object_heap.specs.Bits.{MarkBegins, has}
 
 one_less : (r b : ℕ) → 0 < r → eqb r (b + 1) ≡ eqb (r - 1) b
 one_less r b some = elim (cases_eq (r - 1) b) [

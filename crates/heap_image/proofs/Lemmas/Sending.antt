@@ -5,8 +5,8 @@ use Rattle.std.proofs.lemmas.List.Concat.{flat_map-append}
 use Rattle.std.specs.Result.{OnErr}
 use Rattle.std.specs.Int.{w64, to_le_bytes}
 use Rattle.heap_image.specs.ImageText.{front, numbers, text, with_tail}
-use Rattle.heap_image.specs.HeapImage.{HeapImage, IsValid, heap_words, region_words, region_count, block_of}
-use Rattle.heap_image.specs.declared.version.Version.{Version}
+use Rattle.object_heap.specs.HeapImage.{HeapImage, IsValid, heap_words, region_words, region_count, block_of}
+use Rattle.object_heap.specs.declared.version.Version.{Version}
 use Rattle.std.proofs.Math.Nat.{div-add-mod'}
 use Rattle.std.specs.Io.KnownBytes.{Appends}
 use Rattle.heap_image.specs.Outgoing.{Sends, TakesBeginning}

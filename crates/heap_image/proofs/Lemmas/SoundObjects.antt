@@ -2,7 +2,7 @@
 use Rattle.std.proofs.Common.{◌≡◌, ℕ, ◌+◌, ◌*◌, ◌/◌, ◌%◌, ◌<◌, ◌≤◌, true, List, [], length, get_or, subst, arith}
 use Rattle.std.proofs.lemmas.List.{get_or_default}
 use Rattle.std.proofs.lemmas.List.Elements.{All-from_get_or}
-use Rattle.heap_image.specs.HeapImage.{HeapImage, HasLiveList, HasSoundHeader, size_at, references_at, reference_at, is_null_or_live}
+use Rattle.object_heap.specs.HeapImage.{HeapImage, HasLiveList, HasSoundHeader, size_at, references_at, reference_at, is_null_or_live}
 use Rattle.heap_image.specs.Soundness.{AreNoted, IsSoundObject}
 
 -- where each object is sound, the list is

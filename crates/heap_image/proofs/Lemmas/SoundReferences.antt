@@ -1,8 +1,8 @@
 -- The references of live objects, which bits look up or which are known.
 use Rattle.std.proofs.Common.{◌≡◌, ℕ, ◌+◌, ◌/◌, ◌<◌, ◌≤◌, true, List, length, get_or, arith, Option, Some, None}
 use Rattle.std.specs.Prelude.{All, IfSome}
-use Rattle.heap_image.specs.Bits.{MarkBegins}
-use Rattle.heap_image.specs.HeapImage.{HeapImage, heap_words, word_at, references_at, reference_at, with_live, is_null_or_live}
+use Rattle.object_heap.specs.Bits.{MarkBegins}
+use Rattle.object_heap.specs.HeapImage.{HeapImage, heap_words, word_at, references_at, reference_at, with_live, is_null_or_live}
 use Rattle.heap_image.specs.Soundness.{AreBeginsOrWellFormed}
 use Rattle.heap_image.proofs.Lemmas.LiveListFaults.{references_lead}
 use denote.Ref.{Bor}

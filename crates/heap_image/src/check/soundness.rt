@@ -5,17 +5,16 @@
 //! only their headers are read. The result only says whether all objects are sound: `check` finds the first fault.
 //! No object waits for another one, so that the processor reads some headers and references ahead by itself.
 ghost use Rattle.std.specs.Prelude.{◌≡◌, ◌<◌, ◌≤◌, ◌+◌, ◌*◌, ◌/◌, ◌%◌, ℕ, All, IfSome, IsTrue, OnOk, IfOk, length, [], List, slice_index, slice_index_or};
-ghost use Rattle.heap_image.specs.HeapImage.{HasLiveList, heap_words, is_null_or_live, size_at, with_live, word_at};
-ghost use Rattle.heap_image.specs.Bits.{MarkBegins};
-ghost use Rattle.heap_image.specs.Sizes.{AreSizes};
+ghost use Rattle.object_heap.specs.HeapImage.{HasLiveList, heap_words, is_null_or_live, size_at, with_live, word_at};
+ghost use Rattle.object_heap.specs.Bits.{MarkBegins};
+ghost use Rattle.object_heap.specs.Sizes.{AreSizes};
 ghost use Rattle.heap_image.specs.Soundness.{AreNoted, AreBeginsOrWellFormed, IsSoundObject};
 
-use super::crowd::Crowd;
-use super::{is_null_or_live, is_unsound};
-use crate::bits::Bits;
-use crate::header;
-use crate::heap::Heap;
+use super::is_null_or_live;
 use crate::marking::Marker;
+use heap_marking::Crowd;
+use object_heap::header::{self, is_unsound};
+use object_heap::{Bits, Heap};
 use std::alloc::{AllocError, Global};
 use std::thread::Threads;
 use thread_row::for_each_mut;

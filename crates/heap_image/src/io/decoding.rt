@@ -1,6 +1,6 @@
 //! Decodes an image from bytes in memory.
 ghost use Rattle.std.specs.Prelude.{◌≡◌, ◌≢◌, ◌⊎◌, ◌≤◌, ◌+◌, ◌*◌, ◌<◌, Some, None, Ok, Err, length, IfOk, OnOk, IfErr};
-ghost use Rattle.heap_image.specs.HeapImage.{HeapImage, IsValid};
+ghost use Rattle.object_heap.specs.HeapImage.{HeapImage, IsValid};
 ghost use Rattle.heap_image.specs.ImageText.{text, first_fault, first_some, layout_faults};
 
 use super::front::{FRONT_BYTES, Front};

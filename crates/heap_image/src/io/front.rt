@@ -1,9 +1,9 @@
 //! The front: the first 32 bytes of an image's text.
 ghost use Rattle.std.specs.Prelude.{◌≡◌, ◌≢◌, ◌<◌, ◌≤◌, ◌^◌, ◌+◌, ◌*◌, length, take, is_some, Some, IfOk, IfErr, IfNone, IfSome, option_map};
 ghost use Rattle.std.specs.Str.{bytes_eq};
-ghost use Rattle.heap_image.specs.ImageText.{front, front_faults, first_some, magic, encoded_region_log, encoded_count, encoded_version, encoded_words};
-ghost use Rattle.heap_image.specs.HeapImage.{IsWithinLimits};
-ghost use Rattle.heap_image.specs.Version.{Allows, max_region_log};
+ghost use Rattle.heap_image.specs.ImageText.{front, front_faults, first_some, encoded_region_log, encoded_count, encoded_version, encoded_words};
+ghost use Rattle.object_heap.specs.Version.{magic, Allows, max_region_log};
+ghost use Rattle.object_heap.specs.HeapImage.{IsWithinLimits};
 ghost use Rattle.heap_image.specs.LengthCause.{length_causes, first_length_cause};
 ghost use Rattle.heap_image.specs.Refusals.{IsOfFront};
 

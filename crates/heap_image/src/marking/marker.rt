@@ -1,16 +1,13 @@
 //! Marking, listing and checking in one thread or in several, for code that serves both.
 ghost use Rattle.std.specs.Prelude.{◌≡◌, ◌<◌, ◌≤◌, ◌*◌, ◌^◌, ℕ, [], All, IfOk, IsTrue, length, slice_index_or};
-ghost use Rattle.heap_image.specs.HeapImage.{heap_words, with_live};
-ghost use Rattle.heap_image.specs.Bits.{addresses_of};
-ghost use Rattle.heap_image.specs.Marking.{AreReached, AreReachedWell};
+ghost use Rattle.object_heap.specs.HeapImage.{heap_words, with_live};
+ghost use Rattle.object_heap.specs.Bits.{addresses_of};
+ghost use Rattle.heap_marking.specs.Marking.{AreReached, AreReachedWell};
 ghost use Rattle.heap_image.specs.Soundness.{AreNoted, AreBeginsOrWellFormed};
 
-use super::{Marked, mark, mark_by_crowd};
-use crate::bits::Bits;
-use crate::check::crowd::Crowd;
-use crate::check::live_list::{marked_addresses, marked_by_crowd};
 use crate::check::soundness::{PIECE, note_all_alone, note_all_by_crowd};
-use crate::heap::Heap;
+use heap_marking::{Crowd, Marked, mark, mark_by_crowd, marked_addresses, marked_by_crowd};
+use object_heap::{Bits, Heap};
 use std::alloc::{AllocError, Global};
 use std::thread::Threads;
 

@@ -3,9 +3,9 @@ use Rattle.std.proofs.Common.{◌≡◌, ℕ, ◌^◌, ◌<◌, ◌≤◌, ◌�
 use Rattle.std.specs.Prelude.{if◌then◌else◌}
 use Rattle.std.proofs.lemmas.List.Concat.{flat_map-append}
 use Rattle.std.specs.Int.{w64, to_le_bytes}
-use Rattle.heap_image.specs.Version.{has_roots}
-use Rattle.heap_image.specs.declared.version.Version.{Version}
-use Rattle.heap_image.specs.HeapImage.{HeapImage, IsValid, AreRoots, heap_words, roots_or}
+use Rattle.object_heap.specs.Version.{has_roots}
+use Rattle.object_heap.specs.declared.version.Version.{Version}
+use Rattle.object_heap.specs.HeapImage.{HeapImage, IsValid, AreRoots, heap_words, roots_or}
 use Rattle.heap_image.specs.ImageText.{front, numbers, text, with_tail}
 use Rattle.heap_image.specs.Reading.{HasFittingNumbers}
 use Rattle.heap_text.specs.Parsing.{HasContents, AcceptsText}

@@ -1,6 +1,6 @@
 -- Regions out of range.
 use Rattle.std.proofs.Common.{◌≡◌, ℕ, ◌≤◌, get_or, arith, None}
-use Rattle.heap_image.specs.HeapImage.{HeapImage, IsValid, region_count}
+use Rattle.object_heap.specs.HeapImage.{HeapImage, IsValid, region_count}
 use Rattle.summary.proofs.Lemmas.LiveWords.{live_end-le}
 use Rattle.summary.specs.NewAddresses.{new_address}
 use Rattle.summary.specs.RegionData.{deferred}

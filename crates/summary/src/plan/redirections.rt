@@ -2,7 +2,7 @@
 
 ghost use Rattle.std.specs.Prelude.{◌≡◌, ℕ, ◌+◌, ◌*◌, ◌<◌, ◌≤◌, ◌==◌, nat_lt, map, All, IfOk, IsTrue, Contains};
 ghost use Rattle.std.specs.Int.{bit_at};
-ghost use Rattle.heap_image.specs.HeapImage.{heap_words, is_null_or_live};
+ghost use Rattle.object_heap.specs.HeapImage.{heap_words, is_null_or_live};
 ghost use Rattle.summary.specs.NewAddresses.{prefix_end, new_address};
 ghost use Rattle.summary.specs.Compaction.{redirected};
 ghost use Rattle.summary.specs.Redirections.{AreBits, is_counted, counted_below};
@@ -35,7 +35,7 @@ impl Drop for Redirections {
 }
 
 impl Model for Redirections {
-    ghost use Rattle.heap_image.specs.HeapImage.{HeapImage};
+    ghost use Rattle.object_heap.specs.HeapImage.{HeapImage};
     ghost use Rattle.summary.specs.Redirections.{AreRedirections};
 
     ghost Value = { HeapImage };

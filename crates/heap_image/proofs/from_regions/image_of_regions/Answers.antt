@@ -1,10 +1,10 @@
 use Rattle.std.proofs.Common.{◌≡◌, ◌<◌, ◌^◌, ◌⊎◌, Option, Some, None, List, ℕ, length, All, map, option_map, refl, sym, ap, subst, ◌∙◌}
 use Rattle.std.specs.List.{concat, range_with_len}
-use Rattle.heap_image.specs.HeapImage.{HeapImage, IsValid, IsWithinLimits, image_of, versioned_image_of, block_of, region_count}
+use Rattle.object_heap.specs.HeapImage.{HeapImage, IsValid, IsWithinLimits, image_of, versioned_image_of, block_of, region_count}
 use Rattle.heap_image.specs.ImageText.{from_tail, first_some, live_list_faults}
 use Rattle.heap_image.specs.Reading.{HasFittingNumbers}
 use Rattle.heap_image.specs.Unchecked.{numbers_in}
-use Rattle.heap_image.specs.Version.{Allows}
+use Rattle.object_heap.specs.Version.{Allows}
 use Rattle.heap_image.specs.declared.from_regions.UncheckedParts.{UncheckedParts}
 use Rattle.heap_image.specs.declared.fault.Fault.TheVariants.{Memory}
 use Rattle.heap_image.proofs.Lemmas.Blocks.{blocks_are}
@@ -48,7 +48,7 @@ returns-in-Ok-clause-blocks c =
     let roots = option_map (λ v. v.items) c.in-Ok.sound.found.roots in
     let valid_found = valid parts c.as_slice.result.now live roots c.as_slice.ensures.value c.in-Ok.ensures.live c.in-Ok.ensures.roots
     (fits_of parts sized.limits sized.allowed sized.counted sized.allowance_fits sized.words_fit sized.tail_fit) c.in-Ok.ensures.sound in
-    blocks_are parts.version parts.region_log parts.allowance parts.regions.items live roots (record { whole = c.requires.regions; valid = valid_found })
+    blocks_are c.blocks_joined.ensures.count c.blocks_joined.ensures.parts parts.version parts.region_log parts.allowance parts.regions.items live roots (record { whole = c.requires.regions; valid = valid_found })
     ∙ ap (λ image. map (block_of image) (range_with_len 0 (region_count image))) (sym c.with_seen.ensures)
 
 pub returns-in-Err-find_sound_objects-clause-fault : goal.returns-in-Err-find_sound_objects-clause-fault

@@ -1,10 +1,10 @@
 use Rattle.std.proofs.Common.{◌≡◌, ◌∙◌, ap, refl, subst, sym, true, List, ℕ, Some, None, []}
 use Rattle.std.proofs.lemmas.Bool.{true≢false}
-use Rattle.heap_image.specs.HeapImage.{IsValid, image_of}
+use Rattle.object_heap.specs.HeapImage.{IsValid, image_of}
 use Rattle.heap_image.specs.ImageText.{first_some, from_tail, live_list_faults}
-use Rattle.heap_image.specs.Version.{has_roots}
-use Rattle.heap_image.specs.declared.version.Version.{Version}
-use Rattle.heap_image.specs.declared.version.Version.TheVariants.{One, Two, Three}
+use Rattle.object_heap.specs.Version.{has_roots}
+use Rattle.object_heap.specs.declared.version.Version.{Version}
+use Rattle.object_heap.specs.declared.version.Version.TheVariants.{One, Two, Three}
 use Rattle.heap_image.proofs.Lemmas.FromTail.{from_tail-IsValid, rooted_faults, rooted_live}
 use Rattle.heap_image.proofs.Lemmas.Refusing.{no_fault_of_parts, parts_are}
 use Rattle.heap_image.proofs.laws.marked_parts_are_valid.Goals as goal

@@ -1,5 +1,5 @@
 use Rattle.std.proofs.Common.{length, ◌++◌}
-use Rattle.heap_image.specs.HeapImage.{heap_words}
+use Rattle.object_heap.specs.HeapImage.{heap_words}
 use Rattle.heap_image.specs.ImageText.{numbers, with_tail}
 use Rattle.heap_image.proofs.Lemmas.TextLaws.{length-numbers, front_words, front_fits, valid_numbers}
 use Rattle.heap_image.proofs.Lemmas.Versions.{magic_names}

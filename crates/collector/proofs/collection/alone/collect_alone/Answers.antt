@@ -1,5 +1,5 @@
 use Rattle.std.proofs.Common.{◌≡◌, ℕ, subst}
-use Rattle.heap_image.specs.HeapImage.{HeapImage}
+use Rattle.object_heap.specs.HeapImage.{HeapImage}
 use Rattle.heap_image.specs.declared.fault.Fault.TheVariants.{Gate}
 use Rattle.collector.specs.Halts.{MayRefuse}
 use Rattle.collector.proofs.Lemmas.Failing.{refused_by}

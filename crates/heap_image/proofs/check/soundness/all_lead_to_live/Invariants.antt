@@ -1,6 +1,6 @@
 use Rattle.std.proofs.Common.{◌≡◌, ◌<◌, ℕ, List, get_or, true, All}
-use Rattle.heap_image.specs.Bits.{MarkBegins}
-use Rattle.heap_image.specs.HeapImage.{heap_words, is_null_or_live, with_live}
+use Rattle.object_heap.specs.Bits.{MarkBegins}
+use Rattle.object_heap.specs.HeapImage.{heap_words, is_null_or_live, with_live}
 use Rattle.heap_image.proofs.check.soundness.all_lead_to_live.Given as goal
 
 -- the references so far are null or lead to live objects

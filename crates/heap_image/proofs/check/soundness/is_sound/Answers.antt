@@ -1,6 +1,6 @@
 use Rattle.std.proofs.Common.{◌≡◌, ◌+◌, ℕ, get_or, ◌∙◌, ap, arith}
-use Rattle.heap_image.specs.Header.{size_of, references_of}
-use Rattle.heap_image.specs.HeapImage.{with_live, references_at, size_at}
+use Rattle.object_heap.specs.Header.{size_of, references_of}
+use Rattle.object_heap.specs.HeapImage.{with_live, references_at, size_at}
 use Rattle.heap_image.proofs.Lemmas.LiveListFaults.{sound_header}
 use Rattle.heap_image.proofs.Lemmas.Objects.{unsound_tested}
 use Rattle.heap_image.proofs.Lemmas.SoundReferences.{begins_room, references_sound}

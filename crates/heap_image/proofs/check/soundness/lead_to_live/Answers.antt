@@ -1,6 +1,6 @@
 use Rattle.std.proofs.Common.{◌≡◌, ◌<◌, ◌+◌, ◌-◌, ℕ, inl, inr, length, sym, ◌∙◌, ap, arith}
 use Rattle.std.proofs.lemmas.Bool.{cases_lt}
-use Rattle.heap_image.specs.HeapImage.{is_null_or_live, with_live, word_at}
+use Rattle.object_heap.specs.HeapImage.{is_null_or_live, with_live, word_at}
 use Rattle.heap_image.proofs.check.soundness.lead_to_live.Goals as goal
 
 pub loop-next-preserved : goal.loop-next-preserved

@@ -1,6 +1,6 @@
 use Rattle.std.proofs.Common.{◌≡◌, ◌<◌, ◌≤◌, ◌-◌, ℕ, List, true, All}
-use Rattle.heap_image.specs.Bits.{MarkBegins}
-use Rattle.heap_image.specs.HeapImage.{heap_words, is_null_or_live, with_live, word_at}
+use Rattle.object_heap.specs.Bits.{MarkBegins}
+use Rattle.object_heap.specs.HeapImage.{heap_words, is_null_or_live, with_live, word_at}
 use Rattle.heap_image.proofs.check.soundness.lead_to_live.Given as goal
 
 -- the words so far are null or lead to live objects

@@ -1,5 +1,5 @@
 use Rattle.std.proofs.Common.{◌≡◌, ◌<◌, ℕ, length, [], get_or}
-use Rattle.heap_image.specs.HeapImage.{with_live}
+use Rattle.object_heap.specs.HeapImage.{with_live}
 use Rattle.heap_image.specs.Soundness.{AreNoted}
 use Rattle.heap_image.proofs.check.soundness.note_pieces.Given as goal
 

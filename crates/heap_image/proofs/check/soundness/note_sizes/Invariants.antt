@@ -1,5 +1,5 @@
 use Rattle.std.proofs.Common.{◌≡◌, ◌+◌, ◌<◌, ℕ, length, get_or}
-use Rattle.heap_image.specs.HeapImage.{size_at, with_live}
+use Rattle.object_heap.specs.HeapImage.{size_at, with_live}
 use Rattle.heap_image.specs.Soundness.{IsSoundObject}
 use Rattle.heap_image.proofs.check.soundness.note_sizes.Given as goal
 

@@ -1,5 +1,5 @@
 use Rattle.std.proofs.Common.{subst, get_or, length, [], ℕ, ◌<◌, ◌/◌, ◌%◌}
-use Rattle.heap_image.specs.HeapImage.{with_live}
+use Rattle.object_heap.specs.HeapImage.{with_live}
 use Rattle.heap_image.proofs.Lemmas.SoundObjects.{all_sound}
 use Rattle.heap_image.proofs.check.soundness.sizes_if_sound.Goals as goal
 

@@ -2,7 +2,7 @@ use Rattle.std.proofs.Common.{length, ◌+◌, ◌*◌, ◌^◌, ◌≡◌, ◌<
 use Rattle.std.specs.Prelude.{All}
 use Rattle.std.specs.List.{concat}
 use Rattle.std.specs.Io.KnownBytes.{Consumes}
-use Rattle.heap_image.specs.HeapImage.{AreBlocks}
+use Rattle.object_heap.specs.HeapImage.{AreBlocks}
 use Rattle.heap_image.specs.ImageText.{numbers}
 use Rattle.heap_image.specs.Incoming.{IsInRange, expected, known_rest}
 use Rattle.heap_image.proofs.io.read.read_regions.Given as goal

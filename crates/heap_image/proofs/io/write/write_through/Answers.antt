@@ -2,7 +2,7 @@ use Rattle.std.proofs.Common.{◌≡◌, ◌*◌, ◌++◌, [], take, drop, sym,
 use Rattle.std.proofs.lemmas.List.{append-nil}
 use Rattle.std.proofs.lemmas.Result.{err_from_is_err_and}
 use Rattle.std.specs.Io.KnownBytes.{Appends}
-use Rattle.heap_image.specs.HeapImage.{region_words, region_count, block_of}
+use Rattle.object_heap.specs.HeapImage.{region_words, region_count, block_of}
 use Rattle.heap_image.specs.ImageText.{numbers, text, with_tail}
 use Rattle.heap_image.specs.Outgoing.{unsent_bytes, Sends, TakesBeginning}
 use Rattle.heap_image.proofs.Lemmas.Sending.{beginning_of_first, sends_none, sends_first, sends_on, sends_more, failed_piece, all_sent, first, front_is, text_split, block_first, block_more, all_blocks}

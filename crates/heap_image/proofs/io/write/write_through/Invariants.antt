@@ -1,5 +1,5 @@
 use Rattle.std.proofs.Common.{◌≡◌, ◌*◌, take}
-use Rattle.heap_image.specs.HeapImage.{region_words}
+use Rattle.object_heap.specs.HeapImage.{region_words}
 use Rattle.heap_image.specs.ImageText.{numbers}
 use Rattle.heap_image.specs.Outgoing.{HasRoom, unsent_bytes, Sends}
 use Rattle.heap_image.proofs.io.write.write_through.Given as goal

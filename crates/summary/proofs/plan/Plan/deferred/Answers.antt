@@ -1,7 +1,7 @@
 use Rattle.std.proofs.Common.{ℕ, ◌<◌, List, length, sym, ◌∙◌, ap, subst, arith}
 use Rattle.std.proofs.lemmas.List.FromFn.{length-map-range_with_len, get_or-map-range_with_len}
 use Rattle.std.specs.Prelude.{Option, slice_index_or}
-use Rattle.heap_image.specs.HeapImage.{region_count}
+use Rattle.object_heap.specs.HeapImage.{region_count}
 use Rattle.summary.specs.RegionData.{deferred}
 use Rattle.summary.proofs.Lemmas.OutOfRange.{deferred-out_of_range}
 use Rattle.summary.proofs.plan.Plan.deferred.Goals as goal

@@ -2,7 +2,7 @@ use Rattle.std.proofs.Common.{◌≡◌, ◌+◌, ◌*◌, ℕ, List, [], ◌∷
 use Rattle.std.specs.Prelude.{Option}
 use Rattle.std.specs.List.{range_with_len}
 use Rattle.std.proofs.lemmas.List.FromFn.{map-range_with_len_more}
-use Rattle.heap_image.specs.HeapImage.{start_of}
+use Rattle.object_heap.specs.HeapImage.{start_of}
 use Rattle.summary.specs.RegionData.{deferred}
 use Rattle.summary.proofs.plan.deferred.deferred_addresses.Goals as goal
 

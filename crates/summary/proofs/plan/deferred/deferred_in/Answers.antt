@@ -1,6 +1,6 @@
 use Rattle.std.proofs.Common.{◌≡◌, ℕ, ◌-◌, ◌*◌, List, get_or, sym, ◌∙◌, ap, arith}
 use Rattle.std.specs.Prelude.{Some}
-use Rattle.heap_image.specs.HeapImage.{HeapImage, start_of, size_at}
+use Rattle.object_heap.specs.HeapImage.{HeapImage, start_of, size_at}
 use Rattle.summary.specs.LiveObjects.{object_at}
 use Rattle.summary.specs.NewAddresses.{new_address}
 use Rattle.summary.proofs.Lemmas.Crossings.{none_below, last_crosses, last_stays_inside}

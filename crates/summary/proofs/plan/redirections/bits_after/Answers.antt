@@ -1,7 +1,7 @@
 use Rattle.std.proofs.Common.{◌≡◌, ℕ, ◌+◌, ◌-◌, ◌*◌, ◌||◌, inl, inr, eqb, ltb, refl, sym, ◌∙◌, ap, arith}
 use Rattle.std.specs.Int.{bit_at}
 use Rattle.std.proofs.lemmas.Bool.{cases_lt, lt-ltb, le-ltb, ne_eqb}
-use Rattle.heap_image.specs.HeapImage.{HeapImage, is_live_word}
+use Rattle.object_heap.specs.HeapImage.{HeapImage, is_live_word}
 use Rattle.summary.specs.NewAddresses.{prefix_end}
 use Rattle.summary.specs.Redirections.{is_counted}
 use Rattle.summary.proofs.Lemmas.BitWords.{either-bit}

@@ -3,10 +3,10 @@ use Rattle.std.proofs.lemmas.List.{append-nil}
 use Rattle.std.proofs.lemmas.Result.{err_from_is_err_and}
 use Rattle.std.specs.Prelude.{OnOk, IfErr, option_map}
 use Rattle.std.specs.Io.KnownBytes.{Consumes}
-use Rattle.heap_image.specs.HeapImage.{IsValid, image_of, versioned_image_of}
+use Rattle.object_heap.specs.HeapImage.{IsValid, image_of, versioned_image_of}
 use Rattle.heap_image.specs.ImageText.{text, listed_text, from_tail, first_some, first_object_fault, live_list_faults}
-use Rattle.heap_image.specs.declared.version.Version.{Version}
-use Rattle.heap_image.specs.declared.version.Version.TheVariants.{One, Two, Three}
+use Rattle.object_heap.specs.declared.version.Version.{Version}
+use Rattle.object_heap.specs.declared.version.Version.TheVariants.{One, Two, Three}
 use Rattle.heap_image.specs.Reading.{IsFound, numbers_of}
 use Rattle.heap_image.specs.declared.fault.Fault.{Fault}
 use Rattle.heap_image.specs.declared.io.read.Unchecked.{Unchecked}
