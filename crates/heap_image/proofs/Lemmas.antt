@@ -17,14 +17,12 @@ pub mod LiveOrder
 pub mod Overlaps
 pub mod References
 pub mod Raised
-pub mod SoundReferences
 pub mod Objects
 pub mod Fields
 pub mod Refusing
 pub mod Sending
 pub mod WellFormed
 pub mod WholeBytes
-pub mod SoundObjects
 pub mod Listed
 pub mod Reaches
 pub mod RootedFaults

@@ -9,7 +9,6 @@ pub mod Refusals
 pub mod Reading
 pub mod Unchecked
 pub mod Outgoing
-pub mod Soundness
 pub mod Upgrade
 pub mod Extents
 pub mod RegionSource

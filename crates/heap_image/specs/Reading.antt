@@ -8,7 +8,7 @@ use Rattle.object_heap.specs.declared.version.Version.{Version}
 use Rattle.object_heap.specs.declared.version.Version.TheVariants.{One}
 use Rattle.heap_image.specs.ImageText.{text, from_tail, first_some, first_object_fault, live_list_faults}
 use Rattle.object_heap.specs.Bits.{MarkBegins}
-use Rattle.heap_image.specs.Soundness.{AreWellFormed}
+use Rattle.live_objects.specs.Soundness.{AreWellFormed}
 use Rattle.heap_image.specs.declared.io.read.Unchecked.{Unchecked}
 
 -- all of an input was read, and it is the text of this image

@@ -5,12 +5,12 @@ ghost use Rattle.object_heap.specs.HeapImage.{heap_words, with_live, references_
 ghost use Rattle.heap_image.specs.ImageText.{first_object_fault};
 ghost use Rattle.object_heap.specs.ObjectFaults.{misplaced_index, is_dangling};
 ghost use Rattle.object_heap.specs.Bits.{MarkBegins};
-ghost use Rattle.heap_image.specs.Soundness.{AreWellFormed};
+ghost use Rattle.live_objects.specs.Soundness.{AreWellFormed};
 
-pub(crate) mod soundness;
 pub(crate) mod unchecked;
 
 use crate::Fault;
+use live_objects::is_null_or_live;
 use object_heap::header::{self, is_unsound};
 use object_heap::{Bits, Heap, is_small};
 
@@ -102,16 +102,6 @@ fn check_overlaps(heap: &Heap<'_>, live: &[u64]) -> Result<(), Fault>
         Some(a) => Err(Fault::Overlap(a)),
         None => Ok(()),
     }
-}
-
-/// Whether a reference is null or to a live object. `bits` marks the live addresses.
-#[inline]
-pub(crate) fn is_null_or_live(heap: &Heap<'_>, reference: u64, bits: &Bits) -> bool
-    requires { heap_words heap.now / 64 < length bits.now }
-    ensures { (live : List ℕ) → All (λ b. b < heap_words heap.now) live → MarkBegins live (heap_words heap.now) bits.now
-        → result ≡ is_null_or_live (with_live heap.now live) reference }
-{
-    reference <= heap.len() && (reference == 0) | bits.has(reference.saturating_sub(1))
 }
 
 /// The first field of the object at `a` whose reference is neither null nor to a live object.

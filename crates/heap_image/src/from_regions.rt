@@ -8,12 +8,11 @@ ghost use Rattle.object_heap.specs.Sizes.{AreSizes};
 ghost use Rattle.heap_image.specs.Unchecked.{numbers_in};
 ghost use Rattle.object_heap.specs.Version.{Allows};
 
-use crate::check::soundness::PIECE;
 use crate::check::unchecked::{Found, find_live_objects};
 use crate::io::front::Front;
-use crate::marking::Alone;
 use crate::{Fault, Image, ImageParts, Version};
-use object_heap::{Heap, blocks_joined};
+use live_objects::{Alone, PIECE};
+use object_heap::{Heap, blocks_joined, objects_without_faults};
 use raw_region::Region;
 use std::alloc::Global;
 
@@ -55,6 +54,7 @@ pub fn image_of_regions(alloc: Global, parts: UncheckedParts) -> Result<Image, R
     ensures back { IfErr result (λ refused. refused.regions.items ≡ parts.regions.items) }
 {
     blocks_joined();
+    objects_without_faults();
     let sized = parts.check_sizes();
     let UncheckedParts {
         version,

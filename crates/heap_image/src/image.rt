@@ -7,7 +7,7 @@ ghost use Rattle.object_heap.specs.Bits.{MarkBegins};
 ghost use Rattle.object_heap.specs.Sizes.{AreSizes};
 ghost use Rattle.object_heap.specs.Version.{has_roots};
 
-use crate::check::soundness::PIECE;
+use live_objects::PIECE;
 use object_heap::{Bits, Heap, Version, blocks_joined, regions_by_log, roots_are_null_or_live};
 use raw_region::Region;
 use std::marker::Model;

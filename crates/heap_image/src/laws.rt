@@ -17,7 +17,7 @@ ghost use Rattle.heap_image.specs.Reading.{HasFittingNumbers};
 ghost use Rattle.object_heap.specs.Reachable.{is_listed, IsClosed};
 
 use crate::image::Image;
-use object_heap::reachable_is_the_least_closed;
+use object_heap::{objects_without_faults, reachable_is_the_least_closed};
 
 /// Every image is valid.
 pub fn image_is_valid(image: &Image)
@@ -29,7 +29,9 @@ pub fn image_is_valid(image: &Image)
 /// Bytes without a fault are the text of the valid image that they encode.
 pub fn faultless_is_text()
     ensures { FaultlessIsText }
-{}
+{
+    objects_without_faults();
+}
 
 /// The text of a valid image has no fault, and encodes that image.
 pub fn text_is_faultless()
@@ -61,7 +63,9 @@ pub fn marked_parts_are_valid()
         → first_some (live_list_faults (from_tail Two (image_of log 0 blocks roots))) ≡ None
         → live ≡ reachable (image_of log 0 blocks []) roots
         → IsValid (versioned_image_of version log allowance blocks live (Some roots)) }
-{}
+{
+    objects_without_faults();
+}
 
 /// What a text tells of its image: the version and the number of words; and that all numbers of a valid image fit.
 pub fn text_tells_its_size()

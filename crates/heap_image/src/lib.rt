@@ -31,7 +31,6 @@ mod laws;
 mod marking;
 mod upgrading;
 
-pub use check::soundness::PIECE;
 pub use fault::Fault;
 pub use from_regions::{RefusedRegions, UncheckedParts, image_of_regions};
 pub use image::{Image, ImageParts};
@@ -51,6 +50,7 @@ pub use laws::{
     faultless_is_text, faults_of_roots, image_is_valid, marked_parts_are_valid, one_text,
     text_is_faultless, text_is_read_back, text_tells_its_size,
 };
+pub use live_objects::PIECE;
 pub use marking::reach::{mark_from_roots, mark_from_roots_by_workers};
 pub use object_heap::{
     Bits, Heap, Version, blocks_joined, header, inserted_bit, limits, live_laws,

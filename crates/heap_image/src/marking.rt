@@ -1,6 +1,3 @@
-//! Marking from roots and listing what is marked, for code that serves one thread and several.
+//! Marking from roots, and the check of what is found.
 
-mod marker;
 pub(crate) mod reach;
-
-pub(crate) use marker::{Alone, Marker};

@@ -11,3 +11,4 @@ pub mod Listed
 pub mod Reaches
 pub mod RootsToLive
 pub mod RootLive
+pub mod ObjectFaults

@@ -1,11 +1,12 @@
 //! Laws of heaps, for callers' proofs, which have no other way to them. The functions do nothing: each one's contract is
 //! a law.
-ghost use Rattle.std.specs.Prelude.{◌≡◌, ◌+◌, ◌-◌, ◌*◌, ◌/◌, ◌%◌, ◌^◌, ◌<◌, ◌≤◌, ◌==◌, ◌||◌, ℕ, List, Bool, true, [], All, IsTrue, drop, filter, map, length, set, slice_index_or, take, bit_and, bit_or};
+ghost use Rattle.std.specs.Prelude.{◌≡◌, false, None, slice_index, ◌+◌, ◌-◌, ◌*◌, ◌/◌, ◌%◌, ◌^◌, ◌<◌, ◌≤◌, ◌==◌, ◌||◌, ℕ, List, Bool, true, [], All, IsTrue, drop, filter, map, length, set, slice_index_or, take, bit_and, bit_or};
 ghost use Rattle.std.specs.List.{concat, range_with_len};
 ghost use Rattle.object_heap.specs.Bits.{has};
-ghost use Rattle.object_heap.specs.HeapImage.{HeapImage, IsValid, HasLiveList, AreBlocks, heap_words, is_null_or_live, reachable, roots_of};
+ghost use Rattle.object_heap.specs.HeapImage.{HeapImage, IsValid, HasLiveList, HasSoundHeader, AreBlocks, heap_words, is_null_or_live, is_unsound, reachable, reference_at, references_at, roots_of};
 ghost use Rattle.object_heap.specs.Reachable.{is_listed, IsClosed};
 ghost use Rattle.object_heap.specs.LiveLaws.{LiveLaws};
+ghost use Rattle.object_heap.specs.ObjectFaults.{dangling, overlapping, unsound_header};
 
 /// The addresses that are reachable from roots are the least closed set, and they ascend.
 #[inline]
@@ -58,4 +59,15 @@ pub fn inserted_bit()
     ensures { (words : List ℕ) (i k : ℕ) → i / 64 < length words
         → has (set words (i / 64) (bit_or (slice_index_or words (i / 64) 0) (1 * 2 ^ (i % 64) % 18446744073709551616))) k
         ≡ (has words k || (i == k)) }
+{}
+
+/// What holds of the objects of a live list with which nothing is wrong.
+#[inline]
+pub fn objects_without_faults()
+    ensures header { (image : HeapImage) (a : ℕ) → is_unsound image a ≡ false → HasSoundHeader image a }
+    ensures references { (image : HeapImage) → dangling image ≡ None → (i : ℕ) → i < length image.live
+        → (f : ℕ) → f < references_at image (slice_index image.live i)
+        → IsTrue (is_null_or_live image (reference_at image (slice_index image.live i) f)) }
+    ensures live_list { (image : HeapImage) → unsound_header image ≡ None → overlapping image ≡ None
+        → dangling image ≡ None → HasLiveList image }
 {}

@@ -17,7 +17,7 @@ mod version;
 pub use bits::{Bits, ones_of};
 pub use heap::{Heap, is_small};
 pub use laws::{
-    blocks_joined, inserted_bit, live_laws, live_objects_are_reached,
+    blocks_joined, inserted_bit, live_laws, live_objects_are_reached, objects_without_faults,
     reachable_is_the_least_closed, regions_by_log, roots_are_null_or_live,
 };
 pub use version::Version;

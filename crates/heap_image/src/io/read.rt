@@ -17,14 +17,13 @@ use super::body::Body;
 use super::front::{FRONT_BYTES, Front};
 use super::intake::{Intake, fill};
 use super::region_source::RegionSource;
-use crate::check::soundness::PIECE;
 use crate::check::unchecked::{Found, find_live_objects};
 use crate::io::front::body_size::BodySize;
 use crate::io::numbers::incoming::Incoming;
-use crate::marking::{Alone, Marker};
 use crate::{Fault, Image, ImageParts};
 use heap_marking::Crowd;
-use object_heap::Heap;
+use live_objects::{Alone, Marker, PIECE};
+use object_heap::{Heap, objects_without_faults};
 use raw_region::Region;
 use rayon::current_num_threads;
 use std::alloc::Global;
@@ -240,6 +239,7 @@ impl Unchecked {
         ensures memory { IfErr result (λ fault. fault ≢ Fault.Memory) }
         ensures io { R.has_failed reader.new ≡ is_io result }
     {
+        objects_without_faults();
         checked?;
         if fill(reader, &mut [0; 1])? > 0 {
             return Err(Fault::Trailing);

@@ -6,13 +6,12 @@ ghost use Rattle.object_heap.specs.HeapImage.{FormHeap, HasLiveList, heap_words,
 ghost use Rattle.heap_image.specs.ImageText.{first_some, from_tail, live_list_faults};
 ghost use Rattle.object_heap.specs.ObjectFaults.{misplaced_root};
 ghost use Rattle.object_heap.specs.Bits.{MarkBegins};
-ghost use Rattle.heap_image.specs.Soundness.{AreWellFormed};
+ghost use Rattle.live_objects.specs.Soundness.{AreWellFormed};
 
-use super::{Alone, Marker};
 use crate::Fault;
 use crate::check::check_live;
-use crate::check::soundness::sizes_if_sound;
 use heap_marking::{Crowd, marks_are_listed};
+use live_objects::{Alone, Marker, sizes_if_sound};
 use object_heap::{Bits, Heap, reachable_is_the_least_closed};
 use raw_region::Region;
 use std::alloc::Global;

@@ -22,4 +22,4 @@ returns c = λ version log allowance blocks roots live some fits none found.
     let faultless : first_some (live_list_faults (from_tail version (image_of log 0 blocks roots))) ≡ None =
     sym (ap first_some (rooted_faults version (image_of log 0 blocks roots) some)) ∙ none in
     subst IsValid (sym (parts_are version log allowance blocks blocks roots live (Some roots) refl tail (roots_are version log blocks roots some)))
-    (from_tail-IsValid version (image_of log allowance blocks roots) fits (no_fault_of_parts version log allowance blocks blocks roots refl faultless))
+    (from_tail-IsValid c.objects_without_faults.ensures.live_list version (image_of log allowance blocks roots) fits (no_fault_of_parts version log allowance blocks blocks roots refl faultless))

@@ -83,7 +83,7 @@ pub with_seen-requires-clause-valid : goal.with_seen-requires-clause-valid
 with_seen-requires-clause-valid g c =
     let found = c.requires.found in
     let sound = found.ordered ∙ no_fault c.args.checked c.in_ok-checked.field-0 _ c.in_ok-checked.was c.requires.ok in
-    subst IsValid (sym (parts_of c.args.self found.live found.roots)) (from_tail-IsValid c.args.self.front.version (numbers_of c.args.self) c.requires.fits sound)
+    subst IsValid (sym (parts_of c.args.self found.live found.roots)) (from_tail-IsValid c.objects_without_faults.ensures.live_list c.args.self.front.version (numbers_of c.args.self) c.requires.fits sound)
 
 pub returns-clause-text : goal.returns-clause-text
 returns-clause-text g c = λ before read.
