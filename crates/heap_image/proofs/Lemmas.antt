@@ -1,13 +1,10 @@
 pub mod Known
 pub mod Places
-pub mod Extents
 pub mod Masks
 pub mod Words
 pub mod Counts
 pub mod Firsts
 pub mod Absent
-pub mod Pieces
-pub mod Reading
 pub mod Finds
 pub mod BlockWords
 pub mod Bodies

@@ -3,7 +3,7 @@ use Rattle.std.specs.Prelude.{ℕ, ◌+◌, List, map, Option, Some}
 use Rattle.heap_image.specs.HeapImage.{HeapImage, roots_or}
 use Rattle.heap_image.specs.ImageText.{text}
 use Rattle.heap_image.specs.Reading.{IsRead}
-use Rattle.heap_image.specs.Outgoing.{TakesBeginning}
+use Rattle.image_streams.specs.Outgoing.{TakesBeginning}
 use Rattle.heap_image.specs.declared.version.Version.{Version}
 use Rattle.heap_image.specs.declared.version.Version.TheVariants.{One, Two, Three}
 

@@ -24,7 +24,6 @@
 
 mod bits;
 mod check;
-mod fault;
 mod from_regions;
 pub mod header;
 mod heap;
@@ -38,21 +37,18 @@ mod version;
 
 pub use bits::Bits;
 pub use check::soundness::PIECE;
-pub use fault::Fault;
 pub use from_regions::{RefusedRegions, UncheckedParts, image_of_regions};
 pub use heap::Heap;
 pub use image::{Image, ImageParts};
-pub use io::body::Body;
+pub use image_streams::{
+    Body, BodySize, Extent, Failed, Fault, FileStore, FromRead, Intake, Outlet, Store, ToWrite,
+    body_at, give_all,
+};
 pub use io::decoding::{decode, decode_by_threads};
 pub use io::encoding::encode;
-pub use io::front::FRONT_BYTES;
-pub use io::front::body_size::BodySize;
 pub use io::front::length_cause::LengthCause;
-pub use io::intake::{Failed, FromRead, Intake};
-pub use io::outlet::{Outlet, ToWrite, give_all};
+pub use io::front::{FRONT_BYTES, extent_after_front};
 pub use io::read::{read_image, read_image_by_threads, read_image_by_workers};
-pub use io::side_by_side::{Extent, body_at};
-pub use io::store::{FileStore, Store};
 pub use io::write::{write_image, write_image_buffered};
 pub use laws::{
     blocks_joined, faultless_is_text, faults_of_roots, image_is_valid, inserted_bit, live_laws,

@@ -8,11 +8,10 @@ ghost use Rattle.heap_image.specs.Refusals.{IsReason, IsOfReading};
 ghost use Rattle.heap_image.specs.Version.{has_roots};
 ghost use Rattle.heap_image.specs.Upgrade.{upgraded, upgraded_to, in_version_three, IsUpgradeBegun};
 
-use crate::io::intake::Intake;
-use crate::io::outlet::Outlet;
 use crate::io::read::read_image;
 use crate::io::write::write_image_buffered;
 use crate::{Fault, Image, ImageParts, Version};
+use image_streams::{Intake, Outlet};
 use std::alloc::{AllocError, Global};
 
 /// Converts an image to version 2, with a root to each live object, ascending. The live objects stay the same. An image

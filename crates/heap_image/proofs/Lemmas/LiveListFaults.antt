@@ -9,8 +9,8 @@ use Rattle.std.specs.Option.{option_or}
 use Rattle.std.specs.List.{range_with_len}
 use Rattle.heap_image.specs.HeapImage.{HeapImage, HasLiveList, HasSoundHeader, heap_words, end_of, size_at, references_at, kind_at, reference_at, is_null_or_live, is_unsound}
 use Rattle.heap_image.specs.ImageText.{first_some, fault_if, live_list_faults, unsound_header, overlapping, is_dangling, dangling}
-use Rattle.heap_image.specs.declared.fault.Fault.{Fault}
-use Rattle.heap_image.specs.declared.fault.Fault.TheVariants.{Header, Overlap, Reference}
+use Rattle.image_streams.specs.declared.fault.Fault.{Fault}
+use Rattle.image_streams.specs.declared.fault.Fault.TheVariants.{Header, Overlap, Reference}
 use Rattle.heap_image.proofs.Lemmas.Faultless.{AllNone}
 
 pub AllNone-from_first_some : {A : Type 0} (os : List (Option A)) → first_some os ≡ None → AllNone os

@@ -7,7 +7,7 @@ use Rattle.std.specs.Option.{option_or}
 use Rattle.heap_image.specs.Header.{size_of, references_of, kind_of}
 use Rattle.heap_image.specs.HeapImage.{HeapImage, heap_words, with_live, size_at, is_unsound}
 use Rattle.heap_image.specs.ImageText.{unsound_header, overlapping, dangling, first_some}
-use Rattle.heap_image.specs.declared.fault.Fault.TheVariants.{Header, Overlap, Reference}
+use Rattle.image_streams.specs.declared.fault.Fault.TheVariants.{Header, Overlap, Reference}
 use Rattle.heap_image.proofs.Lemmas.Finds.{find_first}
 use Rattle.heap_image.proofs.Lemmas.Overlaps.{last_end_of, overlap_of, one_if, overlap_more, last_end_more}
 

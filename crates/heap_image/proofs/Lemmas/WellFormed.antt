@@ -7,7 +7,7 @@ use Rattle.std.specs.Prelude.{option_map}
 use Rattle.std.specs.List.{list_any, range_with_len}
 use Rattle.heap_image.specs.HeapImage.{HeapImage, heap_words, with_live, references_at, reference_at, is_null_or_live, is_unsound, leads_to, refers_to, reachable}
 use Rattle.heap_image.specs.ImageText.{first_some, first_object_fault, is_dangling, fields_of, overlapping, dangling}
-use Rattle.heap_image.specs.declared.fault.Fault.TheVariants.{Header, Overlap, Reference}
+use Rattle.image_streams.specs.declared.fault.Fault.TheVariants.{Header, Overlap, Reference}
 use Rattle.heap_image.specs.Marking.{IsWellFormed, AreReachedWell}
 use Rattle.heap_image.specs.Reachable.{is_listed}
 use Rattle.heap_image.specs.Soundness.{AreWellFormed}
