@@ -1,6 +1,6 @@
 //! The image of a heap in memory.
 ghost use Rattle.std.specs.Prelude.{◌≡◌, ◌⊎◌, ℕ, List, Some, IfOk, IfErr, length};
-ghost use Rattle.heap_image.specs.declared.fault.Fault.TheVariants.{Memory};
+ghost use Rattle.image_streams.specs.declared.fault.Fault.TheVariants.{Memory};
 ghost use Rattle.object_heap.specs.HeapImage.{IsValid, heap_words};
 ghost use Rattle.heap_image.specs.ImageText.{text, with_tail, first_fault};
 ghost use Rattle.heap_image.specs.Refusals.{IsReason};

@@ -2,7 +2,7 @@ use Rattle.std.specs.Prelude.{◌≡◌, ℕ, List, ◌++◌, Option, codes, dec
 use Rattle.std.specs.Io.KnownBytes.{Appends}
 use Rattle.object_heap.specs.HeapImage.{HeapImage, IsValid, roots_of}
 use Rattle.heap_image.specs.ImageText.{text}
-use Rattle.heap_image.specs.Outgoing.{TakesBeginning}
+use Rattle.image_streams.specs.Outgoing.{TakesBeginning}
 use Rattle.heap_image.specs.Reading.{IsRead}
 use Rattle.heap_image.specs.Upgrade.{upgraded_to}
 use Rattle.object_heap.specs.declared.version.Version.{Version}

@@ -1,6 +1,6 @@
 ghost use Rattle.std.specs.Prelude.{◌≡◌, ◌≢◌, ◌≤◌, ◌<◌, ◌⊎◌, ◌++◌, [], codes, decimal, length, ℕ, List, IfOk, IfErr, OnErr, IfSome, string_bytes};
 ghost use Rattle.std_alloc.specs.String.{string_capacity};
-ghost use Rattle.heap_image.specs.declared.fault.Fault.{Fault};
+ghost use Rattle.image_streams.specs.declared.fault.Fault.{Fault};
 ghost use Rattle.object_heap.specs.declared.version.Version.{Version};
 ghost use Rattle.object_heap.specs.HeapImage.{roots_of};
 ghost use Rattle.heap_image.specs.Refusals.{IsReason};

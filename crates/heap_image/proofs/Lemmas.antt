@@ -1,7 +1,4 @@
 pub mod Known
-pub mod Extents
-pub mod Pieces
-pub mod Reading
 pub mod Finds
 pub mod BlockWords
 pub mod Bodies

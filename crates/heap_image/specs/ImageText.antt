@@ -1,15 +1,16 @@
 -- The text of an image, in bytes, and the first fault of a byte list.
-use Rattle.std.specs.Prelude.{◌≡◌, ℕ, ◌+◌, ◌*◌, ◌/◌, ◌%◌, ◌^◌, ◌<◌, Bool, true, false, not, ◌||◌, nat_lt, ◌==◌, if◌then◌else◌, List, [], ◌∷◌, ◌++◌, length, map, take, slice_range, All, Option, None, Some, option_map, flat_map}
-use Rattle.std.specs.List.{range_with_len}
-use Rattle.std.specs.Str.{bytes_eq}
-use Rattle.std.specs.Int.{w32, w64, to_le_bytes, from_le_bytes}
+use Rattle.image_streams.specs.Numbers.{numbers, u32_at, u64_at}
+use Rattle.image_streams.specs.declared.fault.Fault.{Fault}
+use Rattle.image_streams.specs.declared.fault.Fault.TheVariants.{TruncatedHeader, Magic, RegionLog, Length, TruncatedBody, LiveOrder, Header, Overlap, Reference, Trailing, Root}
+use Rattle.object_heap.specs.HeapImage.{HeapImage, IsValid, heap_words, reachable, roots_or}
+use Rattle.object_heap.specs.ObjectFaults.{misplaced_index, misplaced_root, unsound_header, overlapping, dangling}
 use Rattle.object_heap.specs.Version.{magic, has_roots, max_region_log, max_regions, max_words}
 use Rattle.object_heap.specs.declared.version.Version.{Version}
 use Rattle.object_heap.specs.declared.version.Version.TheVariants.{One, Two, Three}
-use Rattle.object_heap.specs.HeapImage.{HeapImage, IsValid, heap_words, reachable, roots_or}
-use Rattle.object_heap.specs.ObjectFaults.{misplaced_index, misplaced_root, unsound_header, overlapping, dangling}
-use Rattle.heap_image.specs.declared.fault.Fault.{Fault}
-use Rattle.heap_image.specs.declared.fault.Fault.TheVariants.{TruncatedHeader, Magic, RegionLog, Length, TruncatedBody, LiveOrder, Header, Overlap, Reference, Trailing, Root}
+use Rattle.std.specs.Int.{w32, w64, to_le_bytes}
+use Rattle.std.specs.List.{range_with_len}
+use Rattle.std.specs.Prelude.{◌≡◌, ℕ, ◌+◌, ◌*◌, ◌/◌, ◌%◌, ◌^◌, ◌<◌, Bool, true, false, not, ◌||◌, nat_lt, ◌==◌, if◌then◌else◌, List, [], ◌∷◌, ◌++◌, length, map, take, All, Option, None, Some, option_map, flat_map}
+use Rattle.std.specs.Str.{bytes_eq}
 
 -- The first 32 bytes of a text. Numbers are little endian.
 abbrev pub front : Version → (region_log count words allowance : ℕ) → List ℕ
@@ -18,10 +19,6 @@ front version region_log count words allowance = magic version
     ++ to_le_bytes w32 count
     ++ to_le_bytes w64 words
     ++ to_le_bytes w64 allowance
-
--- numbers of eight bytes each
-abbrev pub numbers : List ℕ → List ℕ
-numbers xs = flat_map (to_le_bytes w64) xs
 
 -- the front, the words, and the numbers after them, here those of the live list
 abbrev pub listed_text : Version → HeapImage → List ℕ
@@ -51,23 +48,17 @@ version_of_magic bytes =
 
 -- The fields of a byte list, whether or not the bytes are an image's text.
 module _ (bytes : List ℕ) where
-  abbrev pub u32_at : ℕ → ℕ
-  u32_at offset = from_le_bytes w32 (slice_range bytes offset (offset + 4))
-
-  abbrev pub u64_at : ℕ → ℕ
-  u64_at offset = from_le_bytes w64 (slice_range bytes offset (offset + 8))
-
   abbrev pub encoded_region_log : ℕ
-  encoded_region_log = u32_at 8
+  encoded_region_log = u32_at bytes 8
 
   abbrev pub encoded_count : ℕ
-  encoded_count = u32_at 12
+  encoded_count = u32_at bytes 12
 
   abbrev pub encoded_version : Version
   encoded_version = version_of_magic (take 8 bytes)
 
   abbrev pub encoded_words : ℕ
-  encoded_words = u64_at 16
+  encoded_words = u64_at bytes 16
 
   abbrev pub encoded_region_words : ℕ
   encoded_region_words = 2 ^ encoded_region_log
@@ -79,9 +70,9 @@ module _ (bytes : List ℕ) where
   encoded_numbers = record {
     version = One;
     region_log = encoded_region_log;
-    allowance = u64_at 24;
-    words = map (λ a. u64_at (32 + 8 * a)) (range_with_len 0 encoded_words);
-    live = map (λ i. u64_at (32 + 8 * encoded_words + 8 * i)) (range_with_len 0 encoded_count);
+    allowance = u64_at bytes 24;
+    words = map (λ a. u64_at bytes (32 + 8 * a)) (range_with_len 0 encoded_words);
+    live = map (λ i. u64_at bytes (32 + 8 * encoded_words + 8 * i)) (range_with_len 0 encoded_count);
     roots = None;
   }
 

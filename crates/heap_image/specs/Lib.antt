@@ -1,14 +1,7 @@
 pub mod ImageText
 pub mod LengthCause
-pub mod Device
-pub mod StdDevices
-pub mod Incoming
-pub mod Body
 pub mod Kept
 pub mod Refusals
 pub mod Reading
 pub mod Unchecked
-pub mod Outgoing
 pub mod Upgrade
-pub mod Extents
-pub mod RegionSource

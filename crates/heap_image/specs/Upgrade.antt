@@ -3,7 +3,7 @@ use Rattle.std.specs.Prelude.{ℕ, ◌+◌, List, map, Option, Some}
 use Rattle.object_heap.specs.HeapImage.{HeapImage, roots_or}
 use Rattle.heap_image.specs.ImageText.{text}
 use Rattle.heap_image.specs.Reading.{IsRead}
-use Rattle.heap_image.specs.Outgoing.{TakesBeginning}
+use Rattle.image_streams.specs.Outgoing.{TakesBeginning}
 use Rattle.object_heap.specs.declared.version.Version.{Version}
 use Rattle.object_heap.specs.declared.version.Version.TheVariants.{One, Two, Three}
 

@@ -3,16 +3,17 @@
 ghost use Rattle.std.specs.Prelude.{◌≡◌, ◌+◌, ◌-◌, ◌*◌, ◌/◌, ◌%◌, ◌^◌, ◌<◌, ◌≤◌, ◌==◌, ◌||◌, ◌⊎◌, ℕ, List, Bool, true, false, [], Option, Some, None, Result, Ok, Err, All, IsTrue, IfSome, IfOk, IfErr, OnOk, filter, map, length, set, slice_index_or, bit_and, bit_or};
 ghost use Rattle.std.specs.List.{concat, range_with_len};
 ghost use Rattle.std.specs.Io.KnownBytes.{Consumes, IsAtEnd};
-ghost use Rattle.heap_image.specs.Device.{is_io};
+ghost use Rattle.image_streams.specs.Device.{is_io};
 ghost use Rattle.heap_image.specs.Refusals.{IsReason};
 ghost use Rattle.object_heap.specs.Version.{has_roots, magic};
-ghost use Rattle.heap_image.specs.declared.fault.Fault.{Fault};
-ghost use Rattle.heap_image.specs.declared.fault.Fault.TheVariants.{Memory};
+ghost use Rattle.image_streams.specs.declared.fault.Fault.{Fault};
+ghost use Rattle.image_streams.specs.declared.fault.Fault.TheVariants.{Memory};
 ghost use Rattle.object_heap.specs.declared.version.Version.{Version};
 ghost use Rattle.object_heap.specs.declared.version.Version.TheVariants.{Two};
 ghost use Rattle.object_heap.specs.HeapImage.{HeapImage, IsValid, HasLiveList, AreBlocks, heap_words, image_of, is_null_or_live, reachable, versioned_image_of, roots_of};
-ghost use Rattle.heap_image.specs.ImageText.{text, numbers, version_of_magic, encoded_words, with_tail, from_tail, first_some, live_list_faults, FaultlessIsText, TextIsFaultless};
+ghost use Rattle.heap_image.specs.ImageText.{text, version_of_magic, encoded_words, with_tail, from_tail, first_some, live_list_faults, FaultlessIsText, TextIsFaultless};
 ghost use Rattle.object_heap.specs.ObjectFaults.{misplaced_index, unsound_header, dangling, beyond};
+ghost use Rattle.image_streams.specs.Numbers.{numbers};
 ghost use Rattle.heap_image.specs.Reading.{HasFittingNumbers};
 ghost use Rattle.object_heap.specs.Reachable.{is_listed, IsClosed};
 

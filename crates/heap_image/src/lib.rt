@@ -23,7 +23,6 @@
 #![tactic(auto)]
 
 mod check;
-mod fault;
 mod from_regions;
 mod image;
 mod io;
@@ -31,20 +30,17 @@ mod laws;
 mod marking;
 mod upgrading;
 
-pub use fault::Fault;
 pub use from_regions::{RefusedRegions, UncheckedParts, image_of_regions};
 pub use image::{Image, ImageParts};
-pub use io::body::Body;
+pub use image_streams::{
+    Body, BodySize, Extent, Failed, Fault, FileStore, FromRead, Intake, Outlet, Store, ToWrite,
+    body_at, give_all,
+};
 pub use io::decoding::{decode, decode_by_threads};
 pub use io::encoding::encode;
-pub use io::front::FRONT_BYTES;
-pub use io::front::body_size::BodySize;
 pub use io::front::length_cause::LengthCause;
-pub use io::intake::{Failed, FromRead, Intake};
-pub use io::outlet::{Outlet, ToWrite, give_all};
+pub use io::front::{FRONT_BYTES, extent_after_front};
 pub use io::read::{read_image, read_image_by_threads, read_image_by_workers};
-pub use io::side_by_side::{Extent, body_at};
-pub use io::store::{FileStore, Store};
 pub use io::write::{write_image, write_image_buffered};
 pub use laws::{
     faultless_is_text, faults_of_roots, image_is_valid, marked_parts_are_valid, one_text,

@@ -2,7 +2,7 @@ ghost use Rattle.std.specs.Prelude.{◌≡◌, ℕ, ◌+◌, ◌<◌, ◌≤◌,
 ghost use Rattle.std.specs.List.{range_with_len};
 ghost use Rattle.std.specs.Vec.{vec_capacity};
 ghost use Rattle.object_heap.specs.HeapImage.{IsValid, region_words, region_count, block_of};
-ghost use Rattle.heap_image.specs.declared.fault.Fault.TheVariants.{Overwritten};
+ghost use Rattle.image_streams.specs.declared.fault.Fault.TheVariants.{Overwritten};
 ghost use Rattle.region_cells.specs.Blocks.{moved_block};
 ghost use Rattle.region_cells.specs.Cells.{places};
 

@@ -1,6 +1,6 @@
 //! `Survey`: the marks of an image and its plan.
 ghost use Rattle.std.specs.Prelude.{◌≡◌, IfOk, IfErr};
-ghost use Rattle.heap_image.specs.declared.fault.Fault.TheVariants.{Memory};
+ghost use Rattle.image_streams.specs.declared.fault.Fault.TheVariants.{Memory};
 
 use crate::plan::Plan;
 use heap_image::{Fault, Image};

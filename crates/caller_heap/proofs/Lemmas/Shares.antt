@@ -3,7 +3,7 @@ use Rattle.std.proofs.Common.{◌≡◌, ◌⊎◌, inl, List, [], ◌∷◌, �
 use Rattle.std.specs.Prelude.{All, Option, Some, None, IfSome, IfOk, OnOk}
 use Rattle.std.proofs.lemmas.List.Elements.{All-pop}
 use Rattle.object_heap.specs.HeapImage.{HeapImage}
-use Rattle.heap_image.specs.declared.fault.Fault.TheVariants.{Memory, Workers}
+use Rattle.image_streams.specs.declared.fault.Fault.TheVariants.{Memory, Workers}
 use Rattle.collector.specs.Collections.{IfKept}
 use Rattle.collector.specs.declared.outcome.Refusal.{Refusal}
 use Rattle.collector.specs.declared.outcome.Refusal.TheVariants.{Kept, Lost}

@@ -4,10 +4,10 @@ use Rattle.std.proofs.Math.Seq.{take-length}
 use Rattle.std.specs.Io.KnownBytes.{Appends}
 use Rattle.object_heap.specs.HeapImage.{HeapImage}
 use Rattle.heap_image.specs.ImageText.{text}
-use Rattle.heap_image.specs.Outgoing.{TakesBeginning}
+use Rattle.image_streams.specs.Outgoing.{TakesBeginning}
 use Rattle.heap_image.specs.Reading.{IsRead}
 use Rattle.heap_image.specs.Refusals.{IsOfReading}
-use Rattle.heap_image.specs.declared.fault.Fault.{Fault}
+use Rattle.image_streams.specs.declared.fault.Fault.{Fault}
 use Rattle.summary.specs.Compaction.{compact}
 use Rattle.collector.specs.Streams.{IsTextBegun, IsTextWritten}
 

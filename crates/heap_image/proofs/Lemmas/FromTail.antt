@@ -7,7 +7,7 @@ use Rattle.std.specs.Prelude.{All, IfSome, find}
 use Rattle.std.specs.Option.{is_some}
 use Rattle.std.specs.List.{range_with_len}
 use Rattle.heap_image.specs.Reading.{HasFittingNumbers}
-use Rattle.heap_image.specs.declared.fault.Fault.TheVariants.{Root}
+use Rattle.image_streams.specs.declared.fault.Fault.TheVariants.{Root}
 use Rattle.object_heap.specs.HeapImage.{HeapImage, IsValid, AreRoots, heap_words, with_live, reachable, roots_or}
 use Rattle.heap_image.specs.ImageText.{text, listed_text, with_tail, from_tail, live_list_faults, first_some}
 use Rattle.object_heap.specs.ObjectFaults.{misplaced_root}

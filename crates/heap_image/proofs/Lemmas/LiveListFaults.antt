@@ -5,8 +5,8 @@ use Rattle.std.specs.Prelude.{find, Option, Some, None, option_map}
 use Rattle.object_heap.specs.HeapImage.{HeapImage, HasLiveList}
 use Rattle.heap_image.specs.ImageText.{first_some, fault_if, live_list_faults}
 use Rattle.object_heap.specs.ObjectFaults.{unsound_header, overlapping, dangling}
-use Rattle.heap_image.specs.declared.fault.Fault.{Fault}
-use Rattle.heap_image.specs.declared.fault.Fault.TheVariants.{Header, Overlap, Reference}
+use Rattle.image_streams.specs.declared.fault.Fault.{Fault}
+use Rattle.image_streams.specs.declared.fault.Fault.TheVariants.{Header, Overlap, Reference}
 use Rattle.heap_image.proofs.Lemmas.Faultless.{AllNone}
 
 pub AllNone-from_first_some : {A : Type 0} (os : List (Option A)) → first_some os ≡ None → AllNone os

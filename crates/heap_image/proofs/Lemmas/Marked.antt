@@ -5,7 +5,7 @@ use Rattle.std.proofs.lemmas.List.Folds.{list_any_at}
 use Rattle.std.proofs.lemmas.List.Elements.{All-from_get_or}
 use Rattle.std.specs.Prelude.{All, filter, find, option_map, slice_index}
 use Rattle.std.specs.List.{range_with_len, list_any}
-use Rattle.heap_image.specs.declared.fault.Fault.TheVariants.{LiveOrder, Root}
+use Rattle.image_streams.specs.declared.fault.Fault.TheVariants.{LiveOrder, Root}
 use Rattle.object_heap.specs.declared.version.Version.TheVariants.{Two}
 use Rattle.object_heap.specs.HeapImage.{HeapImage, heap_words, with_live, reachable}
 use Rattle.heap_image.specs.ImageText.{object_faults, first_object_fault, first_some, live_list_faults, from_tail}

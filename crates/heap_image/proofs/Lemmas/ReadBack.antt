@@ -14,9 +14,10 @@ use Rattle.std.specs.List.{range_with_len}
 use Rattle.std.specs.Int.{w32, w64, to_le_bytes}
 use Rattle.heap_image.specs.Reading.{HasFittingNumbers}
 use Rattle.object_heap.specs.HeapImage.{HeapImage, IsValid}
-use Rattle.heap_image.specs.ImageText.{numbers, front, text, encoded_version, live_list_faults, first_some, encoded_image, encoded_numbers, encoded_words, encoded_count, encoded_region_log, encoded_length, encoded_region_words, u32_at, u64_at, faults, first_fault}
+use Rattle.heap_image.specs.ImageText.{front, text, encoded_version, live_list_faults, first_some, encoded_image, encoded_numbers, encoded_words, encoded_count, encoded_region_log, encoded_length, encoded_region_words, faults, first_fault}
 use Rattle.object_heap.specs.Version.{magic, max_region_log, max_regions, max_words}
-use Rattle.heap_image.specs.declared.fault.Fault.TheVariants.{TruncatedHeader, Magic, RegionLog, Length, TruncatedBody, Trailing}
+use Rattle.image_streams.specs.Numbers.{numbers, u32_at, u64_at}
+use Rattle.image_streams.specs.declared.fault.Fault.TheVariants.{TruncatedHeader, Magic, RegionLog, Length, TruncatedBody, Trailing}
 use Rattle.object_heap.specs.declared.version.Version.{Version}
 use Rattle.heap_image.proofs.Lemmas.Versions.{log_few, regions_few, words_few}
 use Rattle.heap_image.proofs.Lemmas.Faultless.{AllNone, first_some-None}

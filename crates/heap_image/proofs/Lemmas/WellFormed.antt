@@ -8,7 +8,7 @@ use Rattle.std.specs.List.{list_any, range_with_len}
 use Rattle.object_heap.specs.HeapImage.{HeapImage, heap_words, with_live, references_at, reference_at, is_null_or_live, is_unsound, leads_to, refers_to, reachable}
 use Rattle.heap_image.specs.ImageText.{first_some, first_object_fault}
 use Rattle.object_heap.specs.ObjectFaults.{is_dangling, fields_of, overlapping, dangling}
-use Rattle.heap_image.specs.declared.fault.Fault.TheVariants.{Header, Overlap, Reference}
+use Rattle.image_streams.specs.declared.fault.Fault.TheVariants.{Header, Overlap, Reference}
 use Rattle.heap_marking.specs.Marking.{IsWellFormed, AreReachedWell}
 use Rattle.object_heap.specs.Reachable.{is_listed, IsClosed}
 use Rattle.live_objects.specs.Soundness.{AreWellFormed}

@@ -4,9 +4,9 @@ use Rattle.std.proofs.lemmas.Bool.{le-ltb, true≢false}
 use Rattle.std.proofs.lemmas.List.{take-append-drop, append-nil}
 use Rattle.std.specs.Prelude.{IfOk, OnOk, IfErr, IfSome}
 use Rattle.std.specs.Io.KnownBytes.{Consumes, IsAtEnd}
-use Rattle.heap_image.specs.declared.fault.Fault.{Fault}
-use Rattle.heap_image.specs.declared.fault.Fault.TheVariants.{TruncatedBody, Memory}
-use Rattle.heap_image.specs.Device.{is_io}
+use Rattle.image_streams.specs.declared.fault.Fault.{Fault}
+use Rattle.image_streams.specs.declared.fault.Fault.TheVariants.{TruncatedBody, Memory}
+use Rattle.image_streams.specs.Device.{is_io}
 use Rattle.object_heap.specs.HeapImage.{HeapImage, IsValid}
 use Rattle.object_heap.specs.declared.version.Version.{Version}
 use Rattle.heap_image.specs.ImageText.{front, text, fault_if, first_some, first_fault, front_faults, layout_faults, encoded_length}

@@ -1,7 +1,7 @@
 //! The begin of a collection by several threads of a heap with a live list, in words that a host lends.
 ghost use Rattle.std.specs.Prelude.{◌≡◌, ◌<◌, ◌≤◌, ◌⊎◌, Some, false, All, length};
-ghost use Rattle.heap_image.specs.declared.fault.Fault.{Fault};
-ghost use Rattle.heap_image.specs.declared.fault.Fault.TheVariants.{Workers};
+ghost use Rattle.image_streams.specs.declared.fault.Fault.{Fault};
+ghost use Rattle.image_streams.specs.declared.fault.Fault.TheVariants.{Workers};
 ghost use Rattle.object_heap.specs.declared.version.Version.TheVariants.{One};
 ghost use Rattle.object_heap.specs.HeapImage.{HeapImage, IsValid};
 ghost use Rattle.heap_image.specs.ImageText.{text};

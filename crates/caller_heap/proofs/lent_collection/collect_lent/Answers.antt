@@ -3,7 +3,7 @@ use Rattle.std.proofs.lemmas.List.{length-map}
 use Rattle.std.proofs.lemmas.List.Elements.{All-take}
 use Rattle.object_heap.specs.HeapImage.{HeapImage, image_of}
 use Rattle.heap_image.specs.ImageText.{first_fault, from_tail, listed_text, with_tail}
-use Rattle.heap_image.specs.declared.fault.Fault.TheVariants.{Memory}
+use Rattle.image_streams.specs.declared.fault.Fault.TheVariants.{Memory}
 use Rattle.heap_image.specs.declared.from_regions.RefusedRegions.{RefusedRegions}
 use Rattle.object_heap.specs.declared.version.Version.{Version}
 use Rattle.caller_heap.specs.declared.settings.HeapSettings.{HeapSettings}

@@ -6,7 +6,7 @@ use Rattle.heap_image.specs.Reading.{HasFittingNumbers}
 use Rattle.heap_image.specs.Unchecked.{numbers_in}
 use Rattle.object_heap.specs.Version.{Allows}
 use Rattle.heap_image.specs.declared.from_regions.UncheckedParts.{UncheckedParts}
-use Rattle.heap_image.specs.declared.fault.Fault.TheVariants.{Memory}
+use Rattle.image_streams.specs.declared.fault.Fault.TheVariants.{Memory}
 use Rattle.heap_image.proofs.Lemmas.Blocks.{blocks_are}
 use Rattle.heap_image.proofs.Lemmas.FromTail.{from_tail-IsValid}
 use Rattle.heap_image.proofs.Lemmas.LiveListFaults.{IsFaultlessList}

@@ -1,7 +1,7 @@
 use Rattle.std.proofs.Common.{◌≡◌, ◌<◌, ◌⊎◌, Some, refl, sym, ap, ◌∙◌, subst}
 use Rattle.std.specs.Prelude.{All}
 use Rattle.std.proofs.lemmas.Result.{err_from_is_err_and}
-use Rattle.heap_image.specs.declared.fault.Fault.TheVariants.{Memory}
+use Rattle.image_streams.specs.declared.fault.Fault.TheVariants.{Memory}
 use Rattle.object_heap.specs.HeapImage.{heap_words, with_live, reachable}
 use Rattle.heap_image.specs.ImageText.{first_some, live_list_faults, from_tail}
 use Rattle.object_heap.specs.ObjectFaults.{misplaced_root}

@@ -5,7 +5,7 @@ use Rattle.std.specs.Io.KnownBytes.{Consumes}
 use Rattle.object_heap.specs.Bits.{MarkBegins}
 use Rattle.live_objects.specs.Soundness.{AreWellFormed}
 use Rattle.object_heap.specs.HeapImage.{HeapImage, heap_words, image_of, with_live}
-use Rattle.heap_image.specs.declared.fault.Fault.TheVariants.{Memory}
+use Rattle.image_streams.specs.declared.fault.Fault.TheVariants.{Memory}
 use Rattle.heap_image.specs.ImageText.{listed_text, from_tail, first_some, first_object_fault, live_list_faults}
 use Rattle.heap_image.specs.Reading.{HasFittingNumbers}
 use Rattle.heap_image.specs.declared.io.read.Unchecked.{Unchecked}

@@ -8,7 +8,7 @@ use Rattle.heap_image.specs.ImageText.{text, listed_text, from_tail, first_some,
 use Rattle.object_heap.specs.declared.version.Version.{Version}
 use Rattle.object_heap.specs.declared.version.Version.TheVariants.{One, Two, Three}
 use Rattle.heap_image.specs.Reading.{IsFound, numbers_of}
-use Rattle.heap_image.specs.declared.fault.Fault.{Fault}
+use Rattle.image_streams.specs.declared.fault.Fault.{Fault}
 use Rattle.heap_image.specs.declared.io.read.Unchecked.{Unchecked}
 use Rattle.heap_image.proofs.Lemmas.FromTail.{text-from_tail, from_tail-IsValid}
 use Rattle.heap_image.proofs.Lemmas.Refusing.{check_reason, check_leaves, trailing_reason, trailing_leaves, some_rest, one_taken}
