@@ -1,7 +1,7 @@
 -- Why a heap is not collected.
 use Rattle.std.specs.Prelude.{◌≡◌, ◌⊎◌, ℕ, List, Some}
-use Rattle.heap_image.specs.declared.fault.Fault.{Fault}
-use Rattle.heap_image.specs.declared.fault.Fault.TheVariants.{Memory}
+use Rattle.image_streams.specs.declared.fault.Fault.{Fault}
+use Rattle.image_streams.specs.declared.fault.Fault.TheVariants.{Memory}
 use Rattle.heap_image.specs.ImageText.{first_fault}
 use Rattle.fill.specs.FillFaults.{IsOverwritten}
 

@@ -1,7 +1,8 @@
 -- A heap in memory as the bytes of an image.
 use Rattle.std.specs.Prelude.{ℕ, List, ◌+◌, ◌*◌, ◌++◌, length, min}
-use Rattle.heap_image.specs.ImageText.{front, numbers}
-use Rattle.heap_image.specs.declared.version.Version.{Version}
+use Rattle.heap_image.specs.ImageText.{front}
+use Rattle.image_streams.specs.Numbers.{numbers}
+use Rattle.object_heap.specs.declared.version.Version.{Version}
 use Rattle.caller_heap.specs.declared.heap_words.HeapWords.{HeapWords}
 use Rattle.caller_heap.specs.declared.settings.HeapSettings.{HeapSettings}
 

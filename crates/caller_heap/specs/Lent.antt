@@ -2,9 +2,9 @@
 use Rattle.std.specs.Prelude.{◌≡◌, ◌≤◌, ◌^◌, ◌⊎◌, ℕ, Bool, true, false, List, All, length, map}
 use Rattle.std.specs.List.{concat, range_with_len}
 use Rattle.std.specs.Ptr.{Ptr}
-use Rattle.heap_image.specs.declared.fault.Fault.{Fault}
-use Rattle.heap_image.specs.declared.fault.Fault.TheVariants.{Length}
-use Rattle.heap_image.specs.HeapImage.{HeapImage, block_of, region_count}
+use Rattle.image_streams.specs.declared.fault.Fault.{Fault}
+use Rattle.image_streams.specs.declared.fault.Fault.TheVariants.{Length}
+use Rattle.object_heap.specs.HeapImage.{HeapImage, block_of, region_count}
 use Rattle.heap_image.specs.ImageText.{from_tail}
 use Rattle.heap_image.specs.Unchecked.{numbers_in}
 use Rattle.heap_image.specs.declared.from_regions.UncheckedParts.{UncheckedParts}

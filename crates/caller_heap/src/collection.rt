@@ -1,7 +1,7 @@
 //! The collection of a heap of either kind, and an image's words put over it.
 ghost use Rattle.std.specs.Prelude.{◌≡◌, ◌⊎◌, IfOk, OnErr, IfErr, length};
-ghost use Rattle.heap_image.specs.declared.fault.Fault.TheVariants.{Memory};
-ghost use Rattle.heap_image.specs.HeapImage.{HeapImage, IsValid, heap_words};
+ghost use Rattle.image_streams.specs.declared.fault.Fault.TheVariants.{Memory};
+ghost use Rattle.object_heap.specs.HeapImage.{HeapImage, IsValid, heap_words};
 ghost use Rattle.heap_image.specs.ImageText.{text, with_tail};
 ghost use Rattle.summary.specs.Compaction.{compact};
 ghost use Rattle.fill.specs.FillFaults.{IsOverwritten};

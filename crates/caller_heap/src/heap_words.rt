@@ -1,8 +1,9 @@
 //! Reads an image from words in memory.
 ghost use Rattle.std.specs.Prelude.{◌≡◌, ◌<◌, ◌≤◌, ◌*◌, ◌^◌, ◌++◌, false, All, IfOk, length, take, min};
 ghost use Rattle.std.specs.List.{concat};
-ghost use Rattle.heap_image.specs.HeapImage.{AreBlocks};
-ghost use Rattle.heap_image.specs.ImageText.{front, magic};
+ghost use Rattle.object_heap.specs.HeapImage.{AreBlocks};
+ghost use Rattle.heap_image.specs.ImageText.{front};
+ghost use Rattle.object_heap.specs.Version.{magic};
 ghost use Rattle.caller_heap.specs.HeapWords.{bytes_left};
 
 use crate::settings::HeapSettings;

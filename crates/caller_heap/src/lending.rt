@@ -1,8 +1,8 @@
 //! Words that a host lends, a region each, and gets back.
 ghost use Rattle.std.specs.Prelude.{◌≡◌, ◌≤◌, ◌<◌, ◌^◌, ◌⊎◌, ◌++◌, true, false, All, IsTrue, IfOk, IfErr, OnOk, length, map, take, drop, vec_len};
 ghost use Rattle.std.specs.Vec.{vec_capacity};
-ghost use Rattle.heap_image.specs.HeapImage.{AreBlocks};
-ghost use Rattle.heap_image.specs.declared.fault.Fault.TheVariants.{Memory, Length};
+ghost use Rattle.object_heap.specs.HeapImage.{AreBlocks};
+ghost use Rattle.image_streams.specs.declared.fault.Fault.TheVariants.{Memory, Length};
 ghost use Rattle.fill.specs.FillFaults.{IsOverwritten};
 ghost use Rattle.caller_heap.specs.Lent.{IsHeld, IsGone, AreRegions, AreBack, told, held, words_in};
 

@@ -1,7 +1,7 @@
 //! The collection of a heap in regions that a host lends.
 ghost use Rattle.std.specs.Prelude.{◌≡◌, ◌⊎◌, IfOk, OnOk, IfErr, Some};
-ghost use Rattle.heap_image.specs.declared.fault.Fault.TheVariants.{Memory};
-ghost use Rattle.heap_image.specs.HeapImage.{HeapImage, IsValid, AreBlocks};
+ghost use Rattle.image_streams.specs.declared.fault.Fault.TheVariants.{Memory};
+ghost use Rattle.object_heap.specs.HeapImage.{HeapImage, IsValid, AreBlocks};
 ghost use Rattle.heap_image.specs.ImageText.{text, with_tail, first_fault, listed_text};
 ghost use Rattle.heap_image.specs.Unchecked.{numbers_in};
 ghost use Rattle.summary.specs.Compaction.{compact};

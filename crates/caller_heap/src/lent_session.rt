@@ -1,7 +1,7 @@
 //! A collection in steps of a heap in regions that a host lends.
 ghost use Rattle.std.specs.Prelude.{◌≡◌, ◌⊎◌, All, IsTrue, IfOk, OnOk, IfErr, Some, length, map, vec_len};
-ghost use Rattle.heap_image.specs.declared.fault.Fault.TheVariants.{Memory, Workers, Length};
-ghost use Rattle.heap_image.specs.HeapImage.{IsValid, AreBlocks, region_count};
+ghost use Rattle.image_streams.specs.declared.fault.Fault.TheVariants.{Memory, Workers, Length};
+ghost use Rattle.object_heap.specs.HeapImage.{IsValid, AreBlocks, region_count};
 ghost use Rattle.heap_image.specs.ImageText.{text, first_fault, listed_text, with_tail};
 ghost use Rattle.heap_image.specs.Unchecked.{numbers_in};
 ghost use Rattle.summary.specs.Compaction.{compact};

@@ -1,8 +1,8 @@
 //! The begin of a collection by several threads of a heap in words that a host lends.
 ghost use Rattle.std.specs.Prelude.{◌≡◌, ◌⊎◌, All, IfOk, OnOk, IfErr, vec_len};
-ghost use Rattle.heap_image.specs.declared.fault.Fault.TheVariants.{Workers};
-ghost use Rattle.heap_image.specs.declared.version.Version.TheVariants.{One, Three};
-ghost use Rattle.heap_image.specs.HeapImage.{HeapImage, IsValid};
+ghost use Rattle.image_streams.specs.declared.fault.Fault.TheVariants.{Workers};
+ghost use Rattle.object_heap.specs.declared.version.Version.TheVariants.{One, Three};
+ghost use Rattle.object_heap.specs.HeapImage.{HeapImage, IsValid};
 ghost use Rattle.heap_image.specs.ImageText.{text};
 ghost use Rattle.fill.specs.FillFaults.{IsOverwritten};
 ghost use Rattle.collector.specs.Sessions.{image_of};

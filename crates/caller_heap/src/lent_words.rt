@@ -1,7 +1,7 @@
 //! Collections of a heap in words that a host lends.
 ghost use Rattle.std.specs.Prelude.{◌≡◌, ◌⊎◌, Some, IfOk, IfErr};
-ghost use Rattle.heap_image.specs.declared.version.Version.TheVariants.{One, Three};
-ghost use Rattle.heap_image.specs.HeapImage.{HeapImage, IsValid};
+ghost use Rattle.object_heap.specs.declared.version.Version.TheVariants.{One, Three};
+ghost use Rattle.object_heap.specs.HeapImage.{HeapImage, IsValid};
 ghost use Rattle.heap_image.specs.ImageText.{text};
 ghost use Rattle.summary.specs.Compaction.{compact};
 ghost use Rattle.fill.specs.FillFaults.{IsOverwritten};

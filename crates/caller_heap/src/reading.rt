@@ -1,7 +1,7 @@
 //! The image of a heap in memory.
 ghost use Rattle.std.specs.Prelude.{◌≡◌, ◌⊎◌, ℕ, List, Some, IfOk, IfErr, length};
-ghost use Rattle.heap_image.specs.declared.fault.Fault.TheVariants.{Memory};
-ghost use Rattle.heap_image.specs.HeapImage.{IsValid, heap_words};
+ghost use Rattle.image_streams.specs.declared.fault.Fault.TheVariants.{Memory};
+ghost use Rattle.object_heap.specs.HeapImage.{IsValid, heap_words};
 ghost use Rattle.heap_image.specs.ImageText.{text, with_tail, first_fault};
 ghost use Rattle.heap_image.specs.Refusals.{IsReason};
 ghost use Rattle.caller_heap.specs.HeapWords.{heap_bytes};

@@ -1,7 +1,7 @@
 //! The collection of a heap with roots.
 ghost use Rattle.std.specs.Prelude.{◌≡◌, ◌⊎◌, Some, IfOk, OnErr, IfErr};
-ghost use Rattle.heap_image.specs.declared.version.Version.TheVariants.{Three};
-ghost use Rattle.heap_image.specs.HeapImage.{HeapImage, IsValid};
+ghost use Rattle.object_heap.specs.declared.version.Version.TheVariants.{Three};
+ghost use Rattle.object_heap.specs.HeapImage.{HeapImage, IsValid};
 ghost use Rattle.heap_image.specs.ImageText.{text};
 ghost use Rattle.summary.specs.Compaction.{compact};
 ghost use Rattle.collector.specs.Collections.{figures_of};

@@ -1,7 +1,7 @@
 //! The workers' shares in a collection, each in a box of its own.
 ghost use Rattle.std.specs.Prelude.{◌≡◌, ◌⊎◌, All, Some, IfOk, IfErr, IfSome, vec_len};
-ghost use Rattle.heap_image.specs.HeapImage.{HeapImage};
-ghost use Rattle.heap_image.specs.declared.fault.Fault.TheVariants.{Memory, Workers};
+ghost use Rattle.object_heap.specs.HeapImage.{HeapImage};
+ghost use Rattle.image_streams.specs.declared.fault.Fault.TheVariants.{Memory, Workers};
 ghost use Rattle.fill.specs.FillFaults.{IsOverwritten};
 ghost use Rattle.collector.specs.Collections.{IfKept, IfLost};
 ghost use Rattle.collector.specs.Sessions.{image_of};

@@ -1,7 +1,7 @@
 -- What contracts see of a recorder.
 use Rattle.std.specs.Prelude.{◌≡◌, ◌⊎◌, ℕ, []}
-use Rattle.heap_image.specs.declared.fault.Fault.{Fault}
-use Rattle.heap_image.specs.declared.fault.Fault.TheVariants.{Memory, Overwritten}
+use Rattle.image_streams.specs.declared.fault.Fault.{Fault}
+use Rattle.image_streams.specs.declared.fault.Fault.TheVariants.{Memory, Overwritten}
 use Rattle.scheduler.specs.MoveTable.{MoveTable}
 use Rattle.claim_board.specs.declared.desk.recorder.Recorder.{Recorder}
 use Rattle.claim_board.specs.Callers.{Caller}

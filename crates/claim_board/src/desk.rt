@@ -1,7 +1,7 @@
 ghost use Rattle.std.specs.Prelude.{◌≡◌, ◌==◌, ◌-◌, ◌<◌, count_by, IsOk, IfOk, IfErr, IfSome, OnOk, is_some, if◌then◌else◌};
 ghost use Rattle.scheduler.specs.declared.event.Event.TheVariants.{Claim, Look, Drain, Complete, Settle, Poll};
 ghost use Rattle.scheduler.specs.declared.reply.Reply.TheVariants.{Yes, No, All, More, Done as Completed};
-ghost use Rattle.heap_image.specs.declared.fault.Fault.{Fault};
+ghost use Rattle.image_streams.specs.declared.fault.Fault.{Fault};
 ghost use Rattle.scheduler.specs.MoveTable.{MoveTable, region_count};
 ghost use Rattle.claim_board.specs.Callers.{Caller, Gains};
 ghost use Rattle.claim_board.specs.Drains.{reply_of};

@@ -1,8 +1,8 @@
 use Rattle.std.specs.Prelude.{◌≡◌, ℕ, List, Option, Some, IfSome, codes}
 use Rattle.std.specs.Io.KnownBytes.{Appends}
-use Rattle.heap_image.specs.HeapImage.{HeapImage}
+use Rattle.object_heap.specs.HeapImage.{HeapImage}
 use Rattle.heap_image.specs.ImageText.{text, first_fault}
-use Rattle.heap_image.specs.declared.fault.Fault.{Fault}
+use Rattle.image_streams.specs.declared.fault.Fault.{Fault}
 use Rattle.summary.specs.Compaction.{compact}
 use Rattle.collector.specs.Collections.{figures_of}
 use Rattle.heap_image.specs.Reading.{IsRead}

@@ -1,6 +1,6 @@
 -- The figures of a collection, as `collect` and `record` print them.
 use Rattle.std.specs.Prelude.{◌≡◌, ℕ, List, ◌++◌, codes, decimal}
-use Rattle.heap_image.specs.HeapImage.{HeapImage, IsValid}
+use Rattle.object_heap.specs.HeapImage.{HeapImage, IsValid}
 use Rattle.collector.specs.Collections.{figures_of}
 use Rattle.collector.specs.declared.outcome.Figures.{Figures}
 

@@ -1,12 +1,13 @@
 //! The lines of `verify --explain`.
 ghost use Rattle.std.specs.Prelude.{◌≤◌, ◌*◌, ◌^◌, length};
-ghost use Rattle.heap_image.specs.HeapImage.{AreBlocks};
+ghost use Rattle.object_heap.specs.HeapImage.{AreBlocks};
 
 use collector::{
     ExplainedWord, Explanation, Found, Lead, Moved, OtherLive, OtherRoot, Part, explain,
 };
 use heap_image::{
-    Body, Extent, FRONT_BYTES, Fault, FileStore, Heap, Image, Version, blocks_joined, body_at,
+    Body, FRONT_BYTES, Fault, FileStore, Heap, Image, Version, blocks_joined, body_at,
+    extent_after_front,
 };
 use std::alloc::Global;
 use std::fmt;
@@ -43,7 +44,7 @@ pub fn explanation_of_file<R: AllocGlobal + Threads + Sync, F: FileExt + Sync>(
     let Ok(FRONT_BYTES) = file.read_at(&mut front, 0) else {
         return None;
     };
-    let extent = Extent::after_front(&front)?;
+    let extent = extent_after_front(&front)?;
     extent.end()?;
     let store = FileStore::new(file);
     let body = body_at(rt.alloc(), &store, extent, 1, rt)?;

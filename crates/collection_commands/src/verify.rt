@@ -1,5 +1,5 @@
 ghost use Rattle.std.specs.Prelude.{◌≡◌, codes, ℕ, List, IfOk, IfErr, MatchOption};
-ghost use Rattle.heap_image.specs.declared.fault.Fault.TheVariants.{Memory};
+ghost use Rattle.image_streams.specs.declared.fault.Fault.TheVariants.{Memory};
 ghost use Rattle.verification.specs.declared.verdict.Verdict.TheVariants.{Same};
 ghost use Rattle.collection_commands.specs.Verify.{IsVerdictOf, IsVerdictOn, IsUnverified, verdict_of};
 

@@ -1,7 +1,7 @@
 -- The result of a collection, and its refusals.
 use Rattle.std.specs.Prelude.{◌≡◌, ℕ, ◌<◌, ◌⊎◌}
-use Rattle.heap_image.specs.HeapImage.{HeapImage}
-use Rattle.heap_image.specs.declared.fault.Fault.{Fault}
+use Rattle.object_heap.specs.HeapImage.{HeapImage}
+use Rattle.image_streams.specs.declared.fault.Fault.{Fault}
 use Rattle.summary.specs.NewAddresses.{prefix_end, new_top}
 use Rattle.summary.specs.RegionData.{fill_count}
 use Rattle.collector.specs.declared.outcome.Figures.{Figures}

@@ -1,7 +1,7 @@
 -- How a worker ends whom no gate refuses a region.
 use Rattle.std.specs.Prelude.{Bool, true, false, Result, Ok, Err}
-use Rattle.heap_image.specs.declared.fault.Fault.{Fault}
-use Rattle.heap_image.specs.declared.fault.Fault.TheVariants.{Overwritten}
+use Rattle.image_streams.specs.declared.fault.Fault.{Fault}
+use Rattle.image_streams.specs.declared.fault.Fault.TheVariants.{Overwritten}
 use Rattle.fill.specs.FillFaults.{IsOverwritten}
 use Rattle.collector.specs.declared.workers.worker.Halt.{Halt}
 use Rattle.collector.specs.declared.workers.worker.Halt.TheVariants.{Stopped, Failed}

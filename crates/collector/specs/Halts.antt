@@ -1,8 +1,8 @@
 -- Why workers end before all regions to fill are settled.
 use Rattle.std.specs.Prelude.{◌≡◌, ℕ, ◌<◌, ◌⊎◌, Option, Some, None, Result, Ok, Err}
-use Rattle.heap_image.specs.HeapImage.{HeapImage}
-use Rattle.heap_image.specs.declared.fault.Fault.{Fault}
-use Rattle.heap_image.specs.declared.fault.Fault.TheVariants.{Gate}
+use Rattle.object_heap.specs.HeapImage.{HeapImage}
+use Rattle.image_streams.specs.declared.fault.Fault.{Fault}
+use Rattle.image_streams.specs.declared.fault.Fault.TheVariants.{Gate}
 use Rattle.summary.specs.RegionData.{fill_count}
 use Rattle.fill.specs.FillFaults.{IsFaultOf}
 use Rattle.collector.specs.declared.workers.worker.Halt.{Halt}

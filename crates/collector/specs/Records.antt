@@ -1,7 +1,7 @@
 -- Why a recorded collection is lost.
 use Rattle.std.specs.Prelude.{◌≡◌, ◌⊎◌, ℕ}
-use Rattle.heap_image.specs.declared.fault.Fault.{Fault}
-use Rattle.heap_image.specs.declared.fault.Fault.TheVariants.{Memory, Schedule, Gate}
+use Rattle.image_streams.specs.declared.fault.Fault.{Fault}
+use Rattle.image_streams.specs.declared.fault.Fault.TheVariants.{Memory, Schedule, Gate}
 use Rattle.fill.specs.FillFaults.{IsOverwritten}
 
 -- a line of the schedule is at fault

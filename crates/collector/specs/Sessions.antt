@@ -1,6 +1,6 @@
 -- What contracts see of a collection in steps.
 use Rattle.std.specs.Arc.{arc_value}
-use Rattle.heap_image.specs.HeapImage.{HeapImage}
+use Rattle.object_heap.specs.HeapImage.{HeapImage}
 use Rattle.collector.specs.declared.session.share.Share.{Share}
 
 -- the image that the session of a share compacts

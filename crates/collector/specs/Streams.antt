@@ -1,12 +1,12 @@
 -- A collection from bytes to bytes.
 use Rattle.std.specs.Prelude.{◌≡◌, ℕ, List, Option}
 use Rattle.std.specs.Io.KnownBytes.{Appends}
-use Rattle.heap_image.specs.HeapImage.{HeapImage}
+use Rattle.object_heap.specs.HeapImage.{HeapImage}
 use Rattle.heap_image.specs.ImageText.{text}
 use Rattle.heap_image.specs.Reading.{IsRead}
-use Rattle.heap_image.specs.Outgoing.{TakesBeginning}
-use Rattle.heap_image.specs.declared.fault.Fault.{Fault}
-use Rattle.heap_image.specs.declared.fault.Fault.TheVariants.{TruncatedHeader, Magic, RegionLog, Length, TruncatedBody, Root, LiveOrder, Header, Overlap, Reference, Trailing}
+use Rattle.image_streams.specs.Outgoing.{TakesBeginning}
+use Rattle.image_streams.specs.declared.fault.Fault.{Fault}
+use Rattle.image_streams.specs.declared.fault.Fault.TheVariants.{TruncatedHeader, Magic, RegionLog, Length, TruncatedBody, Root, LiveOrder, Header, Overlap, Reference, Trailing}
 use Rattle.summary.specs.Compaction.{compact}
 use Rattle.scheduler.specs.Schedule.{ScheduleView}
 use Rattle.history.specs.ScheduleText.{schedule_text}

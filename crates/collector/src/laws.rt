@@ -1,6 +1,6 @@
 //! Laws of whole collections. The functions do nothing: their contracts are the laws.
 ghost use Rattle.std.specs.Prelude.{◌≡◌};
-ghost use Rattle.heap_image.specs.HeapImage.{HeapImage};
+ghost use Rattle.object_heap.specs.HeapImage.{HeapImage};
 ghost use Rattle.heap_image.specs.Upgrade.{upgraded};
 ghost use Rattle.summary.specs.Compaction.{compact};
 ghost use Rattle.scheduler.specs.ImageMoves.{image_table};

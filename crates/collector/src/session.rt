@@ -1,6 +1,6 @@
 //! A collection in steps, whose workers run by the caller's calls.
 ghost use Rattle.std.specs.Prelude.{◌≡◌, ◌<◌, ◌⊎◌, ◌↔◌, All, length, vec_len, IfOk, IfErr, IfSome, Err};
-ghost use Rattle.heap_image.specs.HeapImage.{region_count};
+ghost use Rattle.object_heap.specs.HeapImage.{region_count};
 ghost use Rattle.heap_image.specs.ImageText.{with_tail};
 ghost use Rattle.summary.specs.Compaction.{compact};
 ghost use Rattle.scheduler.specs.ImageMoves.{image_table};

@@ -1,10 +1,10 @@
 //! The body of an image's file, read before the collector reads the image.
 ghost use Rattle.std.specs.Prelude.{◌≤◌, ◌<◌, None, IfSome};
-ghost use Rattle.heap_image.specs.Body.{body_words};
-ghost use Rattle.heap_image.specs.Extents.{IsBodyOf};
+ghost use Rattle.image_streams.specs.Body.{body_words};
+ghost use Rattle.image_streams.specs.Extents.{IsBodyOf};
 
 use command_support::{Watched, reshape};
-use heap_image::{Body, Extent, FRONT_BYTES, FileStore, body_at};
+use heap_image::{Body, Extent, FRONT_BYTES, FileStore, body_at, extent_after_front};
 use std::alloc::Global;
 use std::fs::OpenFile;
 use std::os::unix::fs::FileExt;
@@ -63,11 +63,11 @@ fn extent_of(front: &[u8; FRONT_BYTES]) -> Option<Extent>
     if heap_words(front)? < LEAST_WORDS {
         return None;
     }
-    Extent::after_front(front)
+    extent_after_front(front)
 }
 
 /// The number of words of the heap of an image with this front, if an image has such a front.
 pub fn heap_words(front: &[u8; FRONT_BYTES]) -> Option<u64> {
-    let extent = Extent::after_front(front)?;
+    let extent = extent_after_front(front)?;
     Some((extent.size.regions as u64) << extent.size.region_log)
 }

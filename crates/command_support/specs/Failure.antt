@@ -2,7 +2,7 @@ use Rattle.std.specs.Prelude.{ℕ}
 use Rattle.dump_records.specs.declared.error.ImportError.{ImportError}
 use Rattle.heap_maker.specs.declared.error.GenerationError.{GenerationError}
 use Rattle.heap_text.specs.declared.error.TextError.{TextError}
-use Rattle.heap_image.specs.declared.fault.Fault.TheVariants.{Memory, Io}
+use Rattle.image_streams.specs.declared.fault.Fault.TheVariants.{Memory, Io}
 use Rattle.command_support.specs.declared.failure.Failure.{Failure}
 use Rattle.command_support.specs.declared.failure.Failure.TheVariants.{Usage, Fault, Differs, Dump, Generation, Text, Later}
 

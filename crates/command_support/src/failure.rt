@@ -1,5 +1,5 @@
 ghost use Rattle.std.specs.Prelude.{◌≡◌};
-ghost use Rattle.heap_image.specs.declared.fault.Fault.TheVariants.{Memory};
+ghost use Rattle.image_streams.specs.declared.fault.Fault.TheVariants.{Memory};
 ghost use Rattle.command_support.specs.Failure.{failure_of, generation_failure, text_failure};
 ghost use Rattle.command_support.specs.declared.failure.Failure.TheVariants.{Fault};
 

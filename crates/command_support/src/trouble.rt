@@ -1,7 +1,7 @@
 //! Failures with what is known of them: the file and the reason.
 ghost use Rattle.std.specs.Prelude.{◌≡◌, None, IfErr};
 ghost use Rattle.command_support.specs.Failure.{failed_device};
-ghost use Rattle.heap_image.specs.declared.fault.Fault.TheVariants.{Memory};
+ghost use Rattle.image_streams.specs.declared.fault.Fault.TheVariants.{Memory};
 ghost use Rattle.command_support.specs.declared.failure.Failure.TheVariants.{Fault};
 
 pub(crate) mod failed_call;

@@ -1,6 +1,6 @@
 //! The words of an image under construction.
 ghost use Rattle.std.specs.Prelude.{◌<◌, ◌≤◌, ◌^◌, ◌≢◌};
-ghost use Rattle.heap_image.specs.HeapImage.{AreBlocks};
+ghost use Rattle.object_heap.specs.HeapImage.{AreBlocks};
 
 pub(crate) mod arrangement;
 pub(crate) mod forwarding;

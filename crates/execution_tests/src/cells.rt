@@ -1,6 +1,6 @@
 //! Reading, writing and putting back regions of the base heap.
 ghost use Rattle.std.specs.Prelude.{◌≡◌, IfOk};
-ghost use Rattle.heap_image.specs.HeapImage.{region_count};
+ghost use Rattle.object_heap.specs.HeapImage.{region_count};
 
 use crate::checks::{equal, equal_items, holds};
 use crate::setups::{

@@ -1,7 +1,7 @@
 //! Fault 15: reads, writes and fills of a base-heap region that is being written, was filled, or was given up. The
 //! rights and openings come from other boards.
 ghost use Rattle.std.specs.Prelude.{◌≡◌, ◌<◌, IfOk};
-ghost use Rattle.heap_image.specs.HeapImage.{region_count};
+ghost use Rattle.object_heap.specs.HeapImage.{region_count};
 ghost use Rattle.claim_board.specs.Boards.{identity, board_of};
 
 use crate::checks::equal;

@@ -1,6 +1,6 @@
 //! Two threads that read one region of the base heap at the same time.
 ghost use Rattle.std.specs.Prelude.{◌≡◌, ◌<◌, IfSome};
-ghost use Rattle.heap_image.specs.HeapImage.{region_count};
+ghost use Rattle.object_heap.specs.HeapImage.{region_count};
 ghost use Rattle.scheduler.specs.MoveTable.{region_count as table_regions};
 ghost use Rattle.claim_board.specs.Boards.{moves as moves_of, identity, board_of};
 

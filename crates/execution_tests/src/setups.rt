@@ -1,7 +1,7 @@
 //! The cells of a heap of four regions, and openings and rights to read and write them without a fill. Each comes from
 //! a board of its own.
 ghost use Rattle.std.specs.Prelude.{◌≡◌, ◌<◌, IfOk};
-ghost use Rattle.heap_image.specs.HeapImage.{region_count};
+ghost use Rattle.object_heap.specs.HeapImage.{region_count};
 ghost use Rattle.scheduler.specs.MoveTable.{region_count as table_regions};
 ghost use Rattle.claim_board.specs.Boards.{moves as moves_of, identity, board_of};
 

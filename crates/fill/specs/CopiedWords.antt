@@ -1,6 +1,6 @@
 -- The words of a region while it is filled.
 use Rattle.std.specs.Prelude.{ℕ, ◌+◌, Bool, false, nat_lt, ◌&&◌, min, max}
-use Rattle.heap_image.specs.HeapImage.{HeapImage, region_words}
+use Rattle.object_heap.specs.HeapImage.{HeapImage, region_words}
 use Rattle.summary.specs.WordMoves.{slid}
 use Rattle.summary.specs.Compaction.{word_by}
 

@@ -1,7 +1,7 @@
 -- The faults that a fill may return.
 use Rattle.std.specs.Prelude.{◌≡◌, ◌⊎◌, ℕ}
-use Rattle.heap_image.specs.declared.fault.Fault.{Fault}
-use Rattle.heap_image.specs.declared.fault.Fault.TheVariants.{Overwritten}
+use Rattle.image_streams.specs.declared.fault.Fault.{Fault}
+use Rattle.image_streams.specs.declared.fault.Fault.TheVariants.{Overwritten}
 
 -- the fault names some region as overwritten
 abbrev pub IsOverwritten : Fault → Type 0

@@ -1,8 +1,8 @@
 -- The words of a heap between the moves and the end of a collection.
 use Rattle.std.specs.Prelude.{◌≡◌, ℕ, ◌+◌, ◌-◌, ◌*◌, ◌≤◌, Bool, false, ◌&&◌, nat_lt, nat_le, if◌then◌else◌, List, ◌++◌, length, take, replicate, map, Option, Some, None}
 use Rattle.std.specs.List.{concat, list_any, range_with_len}
-use Rattle.heap_image.specs.Header.{references_of}
-use Rattle.heap_image.specs.HeapImage.{HeapImage, AreBlocks, heap_words, region_words, region_count, start_of}
+use Rattle.object_heap.specs.Header.{references_of}
+use Rattle.object_heap.specs.HeapImage.{HeapImage, AreBlocks, heap_words, region_words, region_count, start_of}
 use Rattle.summary.specs.Compaction.{moved_word, redirected}
 use Rattle.summary.specs.RegionData.{region_addresses, deferred}
 use Rattle.summary.specs.Updates.{is_late_reference}

@@ -1,6 +1,6 @@
 -- The regions that have words for a region after the prefix.
 use Rattle.std.specs.Prelude.{◌≡◌, ℕ, ◌<◌, ◌≤◌, true, false}
-use Rattle.heap_image.specs.HeapImage.{HeapImage, region_count, start_of}
+use Rattle.object_heap.specs.HeapImage.{HeapImage, region_count, start_of}
 use Rattle.summary.specs.NewAddresses.{prefix_end}
 use Rattle.summary.specs.WordMoves.{reads}
 use Rattle.region_cells.specs.Views.{Reading}

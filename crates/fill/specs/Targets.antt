@@ -1,6 +1,6 @@
 -- The region that is written, from one moment to the next.
 use Rattle.std.specs.Prelude.{◌≡◌, ℕ, length}
-use Rattle.heap_image.specs.HeapImage.{HeapImage, region_words, start_of, word_at, block_of}
+use Rattle.object_heap.specs.HeapImage.{HeapImage, region_words, start_of, word_at, block_of}
 use Rattle.region_cells.specs.Views.{Writing}
 use Rattle.region_cells.specs.Blocks.{moved_block}
 use Rattle.fill.specs.WordBlocks.{IsSplitAt}

@@ -1,6 +1,6 @@
 use Rattle.std.specs.Prelude.{◌≡◌, ℕ, List, ◌++◌, length, Option, IfSome, codes, decimal}
 use Rattle.std.specs.Io.KnownBytes.{Appends}
-use Rattle.heap_image.specs.HeapImage.{HeapImage, IsValid, heap_words, roots_of}
+use Rattle.object_heap.specs.HeapImage.{HeapImage, IsValid, heap_words, roots_of}
 use Rattle.heap_image.specs.ImageText.{text}
 use Rattle.heap_text.specs.Text.{text_of}
 use Rattle.command_support.specs.Command.{Command}

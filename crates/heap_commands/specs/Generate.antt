@@ -1,8 +1,8 @@
 use Rattle.std.specs.Prelude.{◌≡◌, ℕ, List, ◌++◌, Option, option_map, codes}
 use Rattle.std.specs.Io.KnownBytes.{Appends}
-use Rattle.heap_image.specs.HeapImage.{HeapImage, IsValid}
+use Rattle.object_heap.specs.HeapImage.{HeapImage, IsValid}
 use Rattle.heap_image.specs.ImageText.{text}
-use Rattle.heap_image.specs.Version.{IsChosen}
+use Rattle.object_heap.specs.Version.{IsChosen}
 use Rattle.heap_maker.specs.GenerationFigures.{AreFiguresOf, figures_text}
 use Rattle.heap_maker.specs.Wanted.{IsAsWanted}
 use Rattle.heap_maker.specs.declared.figures.GenerationFigures.{GenerationFigures}

@@ -1,7 +1,7 @@
 -- The histogram of the classes of an imported image.
 use Rattle.std.specs.Prelude.{◌≡◌, ℕ, ◌+◌, ◌*◌, List, [], ◌∷◌, ◌++◌, take, codes, decimal}
 use Rattle.std.specs.Fmt.{format_spec, styled_decimal}
-use Rattle.heap_image.specs.HeapImage.{HeapImage, heap_words}
+use Rattle.object_heap.specs.HeapImage.{HeapImage, heap_words}
 use Rattle.heap_dump.specs.ClassNames.{name_of}
 use Rattle.heap_dump.specs.Listing.{AreObjectsOf}
 use Rattle.heap_dump.specs.Totals.{AreDeadWords, IsRanking, held, sums_of}

@@ -1,8 +1,8 @@
 use Rattle.std.specs.Prelude.{◌≡◌, ℕ, true, List, [], ◌++◌, Option, None, Some, codes}
 use Rattle.std.specs.Io.KnownBytes.{Appends}
-use Rattle.heap_image.specs.HeapImage.{HeapImage, IsValid}
+use Rattle.object_heap.specs.HeapImage.{HeapImage, IsValid}
 use Rattle.heap_image.specs.ImageText.{text}
-use Rattle.heap_image.specs.Version.{has_roots}
+use Rattle.object_heap.specs.Version.{has_roots}
 use Rattle.heap_dump.specs.ImportFigures.{AreFiguresOf, figures_text}
 use Rattle.heap_dump.specs.Requested.{HasChosenVersion}
 use Rattle.heap_dump.specs.declared.figures.ImportFigures.{ImportFigures}

@@ -1,6 +1,6 @@
 use Rattle.std.specs.Prelude.{◌≡◌, ℕ, List, ◌++◌, Option, IfSome, codes}
 use Rattle.std.specs.Io.KnownBytes.{Consumes}
-use Rattle.heap_image.specs.HeapImage.{HeapImage, IsValid}
+use Rattle.object_heap.specs.HeapImage.{HeapImage, IsValid}
 use Rattle.heap_image.specs.ImageText.{text}
 use Rattle.scheduler.specs.Schedule.{ScheduleView}
 use Rattle.history.specs.ScheduleText.{schedule_text}

@@ -1,11 +1,11 @@
 -- Why a schedule isn't replayed on an image, where a device gives the text of each.
 use Rattle.std.specs.Prelude.{◌≡◌, ◌⊎◌, ℕ, List, Option, IfSome}
 use Rattle.std.specs.Io.KnownBytes.{Consumes}
-use Rattle.heap_image.specs.HeapImage.{HeapImage, IsValid}
+use Rattle.object_heap.specs.HeapImage.{HeapImage, IsValid}
 use Rattle.heap_image.specs.ImageText.{text}
 use Rattle.heap_image.specs.Refusals.{IsOfReading, IsReason}
-use Rattle.heap_image.specs.declared.fault.Fault.{Fault}
-use Rattle.heap_image.specs.declared.fault.Fault.TheVariants.{Io, Memory, Schedule}
+use Rattle.image_streams.specs.declared.fault.Fault.{Fault}
+use Rattle.image_streams.specs.declared.fault.Fault.TheVariants.{Io, Memory, Schedule}
 use Rattle.scheduler.specs.Schedule.{ScheduleView}
 use Rattle.history.specs.ScheduleText.{schedule_text}
 use Rattle.history.specs.ReadSchedule.{IsMalformedAt}

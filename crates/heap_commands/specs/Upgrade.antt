@@ -1,11 +1,11 @@
 use Rattle.std.specs.Prelude.{◌≡◌, ℕ, List, ◌++◌, Option, codes, decimal, length}
 use Rattle.std.specs.Io.KnownBytes.{Appends}
-use Rattle.heap_image.specs.HeapImage.{HeapImage, IsValid, roots_of}
+use Rattle.object_heap.specs.HeapImage.{HeapImage, IsValid, roots_of}
 use Rattle.heap_image.specs.ImageText.{text}
-use Rattle.heap_image.specs.Outgoing.{TakesBeginning}
+use Rattle.image_streams.specs.Outgoing.{TakesBeginning}
 use Rattle.heap_image.specs.Reading.{IsRead}
 use Rattle.heap_image.specs.Upgrade.{upgraded_to}
-use Rattle.heap_image.specs.declared.version.Version.{Version}
+use Rattle.object_heap.specs.declared.version.Version.{Version}
 use Rattle.command_support.specs.Command.{Command}
 
 -- the line with the number of roots of an image

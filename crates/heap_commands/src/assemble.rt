@@ -1,5 +1,5 @@
 ghost use Rattle.std.specs.Prelude.{◌≡◌, ◌≢◌, ◌⊎◌, ◌++◌, codes, ℕ, List, IfOk, IfErr, IfSome, OnOk, OnErr, IsTrue, string_bytes};
-ghost use Rattle.heap_image.specs.HeapImage.{IsValid};
+ghost use Rattle.object_heap.specs.HeapImage.{IsValid};
 ghost use Rattle.heap_text.specs.Text.{text_of};
 ghost use Rattle.heap_commands.specs.Assemble.{IsAssembly, IsCountLine, count_line};
 ghost use Rattle.command_support.specs.Failure.{failed_device};

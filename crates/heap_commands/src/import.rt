@@ -1,8 +1,8 @@
 ghost use Rattle.std.specs.Prelude.{◌≡◌, ◌≢◌, ◌⊎◌, ◌++◌, codes, true, None, ℕ, List, IfOk, IfErr, OnOk, OnErr, IsTrue, string_bytes};
 ghost use Rattle.std.specs.Io.KnownBytes.{IsAtEnd};
 ghost use Rattle.command_line.specs.Request.{rows_in};
-ghost use Rattle.heap_image.specs.HeapImage.{IsValid};
-ghost use Rattle.heap_image.specs.Version.{has_roots};
+ghost use Rattle.object_heap.specs.HeapImage.{IsValid};
+ghost use Rattle.object_heap.specs.Version.{has_roots};
 ghost use Rattle.heap_dump.specs.ImportFigures.{AreFiguresOf, figures_text};
 ghost use Rattle.heap_dump.specs.Listing.{AreObjectsOf};
 ghost use Rattle.heap_commands.specs.Import.{IsImport, IsImportText, IsImported, IsListedImport, IsTextOf};

@@ -1,5 +1,5 @@
 ghost use Rattle.std.specs.Prelude.{◌≡◌, ◌++◌, ℕ, List, IfOk, IfErr, IfSome, codes};
-ghost use Rattle.heap_image.specs.declared.fault.Fault.TheVariants.{Memory};
+ghost use Rattle.image_streams.specs.declared.fault.Fault.TheVariants.{Memory};
 ghost use Rattle.history.specs.ScheduleText.{schedule_text};
 ghost use Rattle.history.specs.Replayed.{IsReplayed};
 ghost use Rattle.heap_commands.specs.Replay.{IsReplayText, IsReplayOf, end_line};

@@ -1,6 +1,6 @@
 ghost use Rattle.std.specs.Prelude.{◌≡◌, ◌≢◌, ◌⊎◌, codes, ℕ, List, IfOk, IfErr, OnErr, IsTrue, string_bytes};
 ghost use Rattle.std.specs.Io.KnownBytes.{Appends};
-ghost use Rattle.heap_image.specs.declared.fault.Fault.{Fault};
+ghost use Rattle.image_streams.specs.declared.fault.Fault.{Fault};
 ghost use Rattle.history.specs.ScheduleText.{schedule_text};
 ghost use Rattle.schedule_timeline.specs.Page.{Has};
 ghost use Rattle.schedule_timeline.specs.Timeline.{IsTimelineOf};

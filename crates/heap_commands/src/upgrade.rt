@@ -1,11 +1,11 @@
 ghost use Rattle.std.specs.Prelude.{◌≡◌, ◌≢◌, ◌≤◌, ◌<◌, ◌⊎◌, ◌++◌, [], codes, decimal, length, ℕ, List, IfOk, IfErr, OnErr, IfSome, string_bytes};
 ghost use Rattle.std_alloc.specs.String.{string_capacity};
-ghost use Rattle.heap_image.specs.declared.fault.Fault.{Fault};
-ghost use Rattle.heap_image.specs.declared.version.Version.{Version};
-ghost use Rattle.heap_image.specs.HeapImage.{roots_of};
+ghost use Rattle.image_streams.specs.declared.fault.Fault.{Fault};
+ghost use Rattle.object_heap.specs.declared.version.Version.{Version};
+ghost use Rattle.object_heap.specs.HeapImage.{roots_of};
 ghost use Rattle.heap_image.specs.Refusals.{IsReason};
 ghost use Rattle.heap_image.specs.Upgrade.{upgraded_to};
-ghost use Rattle.heap_image.specs.Version.{number_of};
+ghost use Rattle.object_heap.specs.Version.{number_of};
 ghost use Rattle.heap_commands.specs.Upgrade.{IsBegun, IsRootCount, IsUpgrading};
 ghost use Rattle.command_support.specs.Failure.{failed_device};
 ghost use Rattle.command_support.specs.declared.failure.Failure.TheVariants.{Fault as OfFault, Later};

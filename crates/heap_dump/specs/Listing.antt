@@ -1,7 +1,7 @@
 -- The objects of an imported image, one by one.
 use Rattle.std.specs.Prelude.{◌≡◌, ◌⊎◌, ℕ, ◌+◌, ◌<◌, ◌≤◌, List, All, map, filter, take, length, slice_index}
 use Rattle.std.specs.List.{AllPairs}
-use Rattle.heap_image.specs.HeapImage.{HeapImage, heap_words, size_at, word_at}
+use Rattle.object_heap.specs.HeapImage.{HeapImage, heap_words, size_at, word_at}
 use Rattle.heap_dump.specs.declared.listing.ListedObject.{ListedObject}
 
 -- the address after the last word of an object

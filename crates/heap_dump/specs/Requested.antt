@@ -1,8 +1,8 @@
 -- What options request.
 use Rattle.std.specs.Prelude.{ℕ}
 use Rattle.std.specs.Option.{unwrap_or}
-use Rattle.heap_image.specs.HeapImage.{HeapImage, heap_words}
-use Rattle.heap_image.specs.Version.{IsChosen}
+use Rattle.object_heap.specs.HeapImage.{HeapImage, heap_words}
+use Rattle.object_heap.specs.Version.{IsChosen}
 use Rattle.heap_dump.specs.declared.options.Options.{Options}
 
 -- the region log, 9 by default

@@ -2,8 +2,8 @@
 ghost use Rattle.std.specs.Prelude.{◌≡◌, true, IfOk, OnOk, IsTrue, ◌⊎◌};
 ghost use Rattle.std.specs.Io.KnownBytes.{IsAtEnd};
 ghost use Rattle.std.specs.List.Sorted.{IsStrictlyIncreasing};
-ghost use Rattle.heap_image.specs.HeapImage.{IsValid, roots_of};
-ghost use Rattle.heap_image.specs.Version.{has_roots};
+ghost use Rattle.object_heap.specs.HeapImage.{IsValid, roots_of};
+ghost use Rattle.object_heap.specs.Version.{has_roots};
 ghost use Rattle.heap_dump.specs.Requested.{HasChosenVersion, requested_log};
 ghost use Rattle.heap_dump.specs.ImportFigures.{AreFiguresOf};
 ghost use Rattle.heap_dump.specs.Listing.{AreObjectsOf};

@@ -1,7 +1,7 @@
 //! The limits of an image.
 ghost use Rattle.std.specs.Prelude.{◌≡◌, ◌<◌, ◌≤◌, ◌^◌, All, OnOk, IfOk, length, ◌≢◌};
 ghost use Rattle.std.specs.List.{concat};
-ghost use Rattle.heap_image.specs.HeapImage.{AreBlocks, IsWithinLimits};
+ghost use Rattle.object_heap.specs.HeapImage.{AreBlocks, IsWithinLimits};
 
 use dump_records::ImportError;
 use heap_image::{Fault, Version, blocks_joined};

@@ -1,6 +1,6 @@
 //! The objects of an imported image, one by one.
 ghost use Rattle.std.specs.Prelude.{◌≡◌, ◌≢◌, ◌<◌, ◌≤◌, ◌+◌, IfOk, OnOk, IsTrue};
-ghost use Rattle.heap_image.specs.HeapImage.{heap_words, size_at};
+ghost use Rattle.object_heap.specs.HeapImage.{heap_words, size_at};
 ghost use Rattle.heap_dump.specs.Listing.{AreObjectsBefore, AreObjectsOf, IsNextLive};
 
 pub(crate) mod class_kind;

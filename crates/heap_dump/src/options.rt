@@ -1,7 +1,7 @@
 //! The options of an import.
 ghost use Rattle.std.specs.Prelude.{◌≡◌, ◌≤◌, ◌≢◌, true, IfOk};
 ghost use Rattle.std.specs.Option.{ForSome};
-ghost use Rattle.heap_image.specs.Version.{Allows, IsChosen, has_roots};
+ghost use Rattle.object_heap.specs.Version.{Allows, IsChosen, has_roots};
 ghost use Rattle.heap_dump.specs.Requested.{requested_log};
 
 use dump_records::ImportError;

@@ -1,18 +1,16 @@
 -- The text of an image, in bytes, and the first fault of a byte list.
-use Rattle.std.specs.Prelude.{◌≡◌, ℕ, ◌+◌, ◌-◌, ◌*◌, ◌/◌, ◌%◌, ◌^◌, ◌<◌, Bool, true, false, not, ◌&&◌, ◌||◌, nat_lt, nat_le, ◌==◌, if◌then◌else◌, List, [], ◌∷◌, ◌++◌, length, map, take, drop, slice_index, slice_range, codes, All, Option, None, Some, option_map, find, flat_map, zip}
+use Rattle.image_streams.specs.Numbers.{numbers, u32_at, u64_at}
+use Rattle.image_streams.specs.declared.fault.Fault.{Fault}
+use Rattle.image_streams.specs.declared.fault.Fault.TheVariants.{TruncatedHeader, Magic, RegionLog, Length, TruncatedBody, LiveOrder, Header, Overlap, Reference, Trailing, Root}
+use Rattle.object_heap.specs.HeapImage.{HeapImage, IsValid, heap_words, reachable, roots_or}
+use Rattle.object_heap.specs.ObjectFaults.{misplaced_index, misplaced_root, unsound_header, overlapping, dangling}
+use Rattle.object_heap.specs.Version.{magic, has_roots, max_region_log, max_regions, max_words}
+use Rattle.object_heap.specs.declared.version.Version.{Version}
+use Rattle.object_heap.specs.declared.version.Version.TheVariants.{One, Two, Three}
+use Rattle.std.specs.Int.{w32, w64, to_le_bytes}
 use Rattle.std.specs.List.{range_with_len}
+use Rattle.std.specs.Prelude.{◌≡◌, ℕ, ◌+◌, ◌*◌, ◌/◌, ◌%◌, ◌^◌, ◌<◌, Bool, true, false, not, ◌||◌, nat_lt, ◌==◌, if◌then◌else◌, List, [], ◌∷◌, ◌++◌, length, map, take, All, Option, None, Some, option_map, flat_map}
 use Rattle.std.specs.Str.{bytes_eq}
-use Rattle.std.specs.Int.{w32, w64, to_le_bytes, from_le_bytes}
-use Rattle.heap_image.specs.Version.{has_roots, max_region_log, max_regions, max_words, number_of}
-use Rattle.heap_image.specs.declared.version.Version.{Version}
-use Rattle.heap_image.specs.declared.version.Version.TheVariants.{One, Two, Three}
-use Rattle.heap_image.specs.HeapImage.{HeapImage, IsValid, heap_words, references_at, end_of, reference_at, is_null_or_live, is_unsound, reachable, roots_of, roots_or}
-use Rattle.heap_image.specs.declared.fault.Fault.{Fault}
-use Rattle.heap_image.specs.declared.fault.Fault.TheVariants.{TruncatedHeader, Magic, RegionLog, Length, TruncatedBody, LiveOrder, Header, Overlap, Reference, Trailing, Root}
-
--- PCHEAP0 and the digit of the version
-abbrev pub magic : Version → List ℕ
-magic version = codes "PCHEAP0" ++ (48 + number_of version) ∷ []
 
 -- The first 32 bytes of a text. Numbers are little endian.
 abbrev pub front : Version → (region_log count words allowance : ℕ) → List ℕ
@@ -21,10 +19,6 @@ front version region_log count words allowance = magic version
     ++ to_le_bytes w32 count
     ++ to_le_bytes w64 words
     ++ to_le_bytes w64 allowance
-
--- numbers of eight bytes each
-abbrev pub numbers : List ℕ → List ℕ
-numbers xs = flat_map (to_le_bytes w64) xs
 
 -- the front, the words, and the numbers after them, here those of the live list
 abbrev pub listed_text : Version → HeapImage → List ℕ
@@ -54,23 +48,17 @@ version_of_magic bytes =
 
 -- The fields of a byte list, whether or not the bytes are an image's text.
 module _ (bytes : List ℕ) where
-  abbrev pub u32_at : ℕ → ℕ
-  u32_at offset = from_le_bytes w32 (slice_range bytes offset (offset + 4))
-
-  abbrev pub u64_at : ℕ → ℕ
-  u64_at offset = from_le_bytes w64 (slice_range bytes offset (offset + 8))
-
   abbrev pub encoded_region_log : ℕ
-  encoded_region_log = u32_at 8
+  encoded_region_log = u32_at bytes 8
 
   abbrev pub encoded_count : ℕ
-  encoded_count = u32_at 12
+  encoded_count = u32_at bytes 12
 
   abbrev pub encoded_version : Version
   encoded_version = version_of_magic (take 8 bytes)
 
   abbrev pub encoded_words : ℕ
-  encoded_words = u64_at 16
+  encoded_words = u64_at bytes 16
 
   abbrev pub encoded_region_words : ℕ
   encoded_region_words = 2 ^ encoded_region_log
@@ -82,49 +70,14 @@ module _ (bytes : List ℕ) where
   encoded_numbers = record {
     version = One;
     region_log = encoded_region_log;
-    allowance = u64_at 24;
-    words = map (λ a. u64_at (32 + 8 * a)) (range_with_len 0 encoded_words);
-    live = map (λ i. u64_at (32 + 8 * encoded_words + 8 * i)) (range_with_len 0 encoded_count);
+    allowance = u64_at bytes 24;
+    words = map (λ a. u64_at bytes (32 + 8 * a)) (range_with_len 0 encoded_words);
+    live = map (λ i. u64_at bytes (32 + 8 * encoded_words + 8 * i)) (range_with_len 0 encoded_count);
     roots = None;
   }
 
   abbrev pub encoded_image : HeapImage
   encoded_image = from_tail encoded_version encoded_numbers
-
--- the i-th address is outside a heap of this number of words or not above the one before it
-abbrev pub is_misplaced : ℕ → List ℕ → ℕ → Bool
-is_misplaced words live i = nat_le words (slice_index live i)
-    || (nat_lt 0 i && nat_le (slice_index live i) (slice_index live (i - 1)))
-
--- the least such index
-abbrev pub misplaced_index : ℕ → List ℕ → Option ℕ
-misplaced_index words live = find (is_misplaced words live) (range_with_len 0 (length live))
-
--- Faults of the objects of an image.
-module _ (image : HeapImage) where
-  -- the least index of a root that is above the number of words
-  abbrev pub misplaced_root : Option ℕ
-  misplaced_root = find (λ i. nat_lt (heap_words image) (slice_index (roots_of image) i)) (range_with_len 0 (length (roots_of image)))
-
-  -- the least live address without a sound header
-  abbrev pub unsound_header : Option ℕ
-  unsound_header = find (is_unsound image) image.live
-
-  -- the least address below the end of the object before it
-  abbrev pub overlapping : Option ℕ
-  overlapping = option_map (λ p. p.1) (find (λ p. nat_lt p.1 (end_of image p.0)) (zip image.live (drop 1 image.live)))
-
-  -- the fields of an object, from 0, each with its address
-  abbrev pub fields_of : ℕ → List (ℕ × ℕ)
-  fields_of a = map (λ f. (a, f)) (range_with_len 0 (references_at image a))
-
-  -- the reference in a field is neither null nor to a live object
-  abbrev pub is_dangling : ℕ × ℕ → Bool
-  is_dangling p = not (is_null_or_live image (reference_at image p.0 p.1))
-
-  -- the least address, and in it the least field, with such a reference
-  abbrev pub dangling : Option (ℕ × ℕ)
-  dangling = find is_dangling (flat_map fields_of image.live)
 
 abbrev pub fault_if : Bool → Fault → Option Fault
 fault_if true f = Some f

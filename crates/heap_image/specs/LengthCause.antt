@@ -1,9 +1,9 @@
 -- The conditions of fault 4, one by one.
 use Rattle.std.specs.Prelude.{ℕ, ◌/◌, ◌%◌, ◌^◌, Bool, true, false, not, nat_lt, ◌==◌, List, [], ◌∷◌, Option, None, Some}
 use Rattle.heap_image.specs.ImageText.{first_some, encoded_region_log, encoded_count, encoded_version, encoded_words}
-use Rattle.heap_image.specs.Version.{max_regions, max_words}
+use Rattle.object_heap.specs.Version.{max_regions, max_words}
 use Rattle.heap_image.specs.declared.io.front.length_cause.LengthCause.{LengthCause}
-use Rattle.heap_image.specs.declared.version.Version.{Version}
+use Rattle.object_heap.specs.declared.version.Version.{Version}
 use Rattle.heap_image.specs.declared.io.front.length_cause.LengthCause.TheVariants.{NoWords, PartialRegion, TooManyWords, TooManyRegions, CountAboveWords}
 
 abbrev pub cause_if : Bool → LengthCause → Option LengthCause

@@ -2,13 +2,13 @@
 use Rattle.std.specs.Prelude.{◌≡◌, ℕ, ◌<◌, ◌^◌, IsTrue, List, All, Option, None, length, option_map}
 use Rattle.std.specs.List.{concat}
 use Rattle.std.specs.Io.KnownBytes.{Consumes, IsAtEnd}
-use Rattle.heap_image.specs.HeapImage.{HeapImage, IsValid, IsWithinLimits, heap_words, image_of, roots_or}
-use Rattle.heap_image.specs.Version.{Allows}
-use Rattle.heap_image.specs.declared.version.Version.{Version}
-use Rattle.heap_image.specs.declared.version.Version.TheVariants.{One}
+use Rattle.object_heap.specs.HeapImage.{HeapImage, IsValid, IsWithinLimits, heap_words, image_of, roots_or}
+use Rattle.object_heap.specs.Version.{Allows}
+use Rattle.object_heap.specs.declared.version.Version.{Version}
+use Rattle.object_heap.specs.declared.version.Version.TheVariants.{One}
 use Rattle.heap_image.specs.ImageText.{text, from_tail, first_some, first_object_fault, live_list_faults}
-use Rattle.heap_image.specs.Bits.{MarkBegins}
-use Rattle.heap_image.specs.Soundness.{AreWellFormed}
+use Rattle.object_heap.specs.Bits.{MarkBegins}
+use Rattle.live_objects.specs.Soundness.{AreWellFormed}
 use Rattle.heap_image.specs.declared.io.read.Unchecked.{Unchecked}
 
 -- all of an input was read, and it is the text of this image

@@ -1,16 +1,12 @@
 -- Which faults reading returns for an input, and what it leaves of the input.
 use Rattle.std.specs.Prelude.{◌≡◌, ℕ, ◌+◌, List, [], drop, Option, Some, ◌⊎◌}
-use Rattle.heap_image.specs.declared.fault.Fault.{Fault}
-use Rattle.heap_image.specs.declared.fault.Fault.TheVariants.{TruncatedHeader, Magic, RegionLog, Length, TruncatedBody, LiveOrder, Header, Overlap, Reference, Trailing, Memory, Io, Root, Workers, Schedule, Overwritten, Gate}
+use Rattle.image_streams.specs.declared.fault.Fault.{Fault}
+use Rattle.image_streams.specs.declared.fault.Fault.TheVariants.{TruncatedHeader, Magic, RegionLog, Length, TruncatedBody, LiveOrder, Header, Overlap, Reference, Trailing, Memory, Io, Root, Workers, Schedule, Overwritten, Gate}
 use Rattle.heap_image.specs.ImageText.{first_fault, encoded_length}
 
 -- memory ran out, the device failed, or this is the first fault of the input
 abbrev pub IsReason : List ℕ → Fault → Type 0
 IsReason input fault = (fault ≡ Memory) ⊎ ((fault ≡ Io) ⊎ (first_fault input ≡ Some fault))
-
--- a fault in reading a body: memory ran out, the device failed, or too few bytes came
-abbrev pub IsOfBody : Fault → Type 0
-IsOfBody fault = (fault ≡ Memory) ⊎ ((fault ≡ Io) ⊎ (fault ≡ TruncatedBody))
 
 -- All faults that reading an image may return: those of its bytes, memory, and the device's.
 abbrev pub IsOfReading : Fault → Type 0

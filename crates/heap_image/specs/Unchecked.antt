@@ -1,5 +1,5 @@
 -- The numbers of an image whose sizes and live objects aren't checked.
-use Rattle.heap_image.specs.HeapImage.{HeapImage, image_of}
+use Rattle.object_heap.specs.HeapImage.{HeapImage, image_of}
 use Rattle.heap_image.specs.declared.from_regions.UncheckedParts.{UncheckedParts}
 
 -- the words, with the numbers after them as a live list

@@ -1,11 +1,11 @@
 -- An image as one of a later version.
 use Rattle.std.specs.Prelude.{ℕ, ◌+◌, List, map, Option, Some}
-use Rattle.heap_image.specs.HeapImage.{HeapImage, roots_or}
+use Rattle.object_heap.specs.HeapImage.{HeapImage, roots_or}
 use Rattle.heap_image.specs.ImageText.{text}
 use Rattle.heap_image.specs.Reading.{IsRead}
-use Rattle.heap_image.specs.Outgoing.{TakesBeginning}
-use Rattle.heap_image.specs.declared.version.Version.{Version}
-use Rattle.heap_image.specs.declared.version.Version.TheVariants.{One, Two, Three}
+use Rattle.image_streams.specs.Outgoing.{TakesBeginning}
+use Rattle.object_heap.specs.declared.version.Version.{Version}
+use Rattle.object_heap.specs.declared.version.Version.TheVariants.{One, Two, Three}
 
 -- version 2 in place of version 1
 abbrev pub upgraded_version : Version → Version

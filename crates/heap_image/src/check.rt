@@ -1,20 +1,18 @@
 //! Checks a live list in one thread, and finds its first fault.
-ghost use Rattle.std.specs.Prelude.{◌≡◌, ◌<◌, ◌≤◌, ◌+◌, ◌/◌, ◌^◌, ◌||◌, ◌⊎◌, ◌==◌, nat_le, nat_lt, not, ℕ, Option, Some, None, [], ◌∷◌, List, All, option_map, find, map, OnOk, IfErr, IsTrue, length};
+ghost use Rattle.std.specs.Prelude.{◌≡◌, ◌<◌, ◌≤◌, ◌+◌, ◌/◌, ◌^◌, ◌⊎◌, ◌==◌, ℕ, Option, Some, None, [], ◌∷◌, List, All, option_map, find, map, OnOk, IfErr, IsTrue, length};
 ghost use Rattle.std.specs.List.{list_any, range_with_len};
-ghost use Rattle.heap_image.specs.Header.{size_of, references_of, kind_of};
-ghost use Rattle.heap_image.specs.HeapImage.{heap_words, with_live, references_at, is_null_or_live};
-ghost use Rattle.heap_image.specs.ImageText.{first_object_fault, misplaced_index, is_dangling};
-ghost use Rattle.heap_image.specs.Bits.{MarkBegins};
-ghost use Rattle.heap_image.specs.Soundness.{AreWellFormed};
+ghost use Rattle.object_heap.specs.HeapImage.{heap_words, with_live, references_at, is_null_or_live};
+ghost use Rattle.heap_image.specs.ImageText.{first_object_fault};
+ghost use Rattle.object_heap.specs.ObjectFaults.{misplaced_index, is_dangling};
+ghost use Rattle.object_heap.specs.Bits.{MarkBegins};
+ghost use Rattle.live_objects.specs.Soundness.{AreWellFormed};
 
-pub(crate) mod crowd;
-pub(crate) mod live_list;
-pub(crate) mod soundness;
 pub(crate) mod unchecked;
 
-use crate::bits::Bits;
-use crate::heap::{Heap, is_small};
-use crate::{Fault, header};
+use crate::Fault;
+use live_objects::is_null_or_live;
+use object_heap::header::{self, is_unsound};
+use object_heap::{Bits, Heap, is_small};
 
 /// The first index of an address that is outside the heap or not above the one before it.
 pub(crate) fn misplaced_index(live: &[u64], words: u64) -> Option<u32>
@@ -30,20 +28,6 @@ pub(crate) fn misplaced_index(live: &[u64], words: u64) -> Option<u32>
         next = *a + 1;
     }
     None
-}
-
-/// Whether this word at address `a` is not the header of an object that fits.
-#[inline]
-pub(crate) fn is_unsound(word: u64, a: u64, words: u64) -> bool
-    requires { a ≤ 68719476736 }
-    ensures { result ≡ (not (kind_of word == 1) || (size_of word == 0)
-        || nat_le (size_of word) (references_of word) || nat_lt words (a + size_of word)) }
-{
-    let size = header::size(word);
-    header::kind(word) != header::OBJECT
-        || size == 0
-        || size <= header::references(word)
-        || a + u64::from(size) > words
 }
 
 /// Checks that each live address has the header of an object that fits, that no two objects overlap, and that each
@@ -118,16 +102,6 @@ fn check_overlaps(heap: &Heap<'_>, live: &[u64]) -> Result<(), Fault>
         Some(a) => Err(Fault::Overlap(a)),
         None => Ok(()),
     }
-}
-
-/// Whether a reference is null or to a live object. `bits` marks the live addresses.
-#[inline]
-pub(crate) fn is_null_or_live(heap: &Heap<'_>, reference: u64, bits: &Bits) -> bool
-    requires { heap_words heap.now / 64 < length bits.now }
-    ensures { (live : List ℕ) → All (λ b. b < heap_words heap.now) live → MarkBegins live (heap_words heap.now) bits.now
-        → result ≡ is_null_or_live (with_live heap.now live) reference }
-{
-    reference <= heap.len() && (reference == 0) | bits.has(reference.saturating_sub(1))
 }
 
 /// The first field of the object at `a` whose reference is neither null nor to a live object.

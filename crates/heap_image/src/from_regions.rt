@@ -1,19 +1,18 @@
 //! An image of regions that a caller has, which no word is copied for.
 ghost use Rattle.std.specs.Prelude.{◌≡◌, ◌<◌, ◌≤◌, ◌^◌, ◌⊎◌, Some, None, [], All, length, map, IfOk, OnOk, IfErr, IfSome, option_map};
 ghost use Rattle.std.specs.List.{concat, range_with_len};
-ghost use Rattle.heap_image.specs.Bits.{MarkBegins};
-ghost use Rattle.heap_image.specs.HeapImage.{FormHeap, IsValid, IsWithinLimits, AreBlocks, image_of, block_of, region_count};
+ghost use Rattle.object_heap.specs.Bits.{MarkBegins};
+ghost use Rattle.object_heap.specs.HeapImage.{FormHeap, IsValid, IsWithinLimits, AreBlocks, image_of, block_of, region_count};
 ghost use Rattle.heap_image.specs.ImageText.{text, listed_text, from_tail, front, front_faults, first_fault, first_some, first_object_fault, live_list_faults};
-ghost use Rattle.heap_image.specs.Sizes.{AreSizes};
+ghost use Rattle.object_heap.specs.Sizes.{AreSizes};
 ghost use Rattle.heap_image.specs.Unchecked.{numbers_in};
-ghost use Rattle.heap_image.specs.Version.{Allows};
+ghost use Rattle.object_heap.specs.Version.{Allows};
 
-use crate::check::soundness::PIECE;
 use crate::check::unchecked::{Found, find_live_objects};
-use crate::heap::Heap;
 use crate::io::front::Front;
-use crate::marking::Alone;
 use crate::{Fault, Image, ImageParts, Version};
+use live_objects::{Alone, PIECE};
+use object_heap::{Heap, blocks_joined, objects_without_faults};
 use raw_region::Region;
 use std::alloc::Global;
 
@@ -54,6 +53,8 @@ pub fn image_of_regions(alloc: Global, parts: UncheckedParts) -> Result<Image, R
         ⊎ (first_fault (listed_text parts.version (numbers_in parts)) ≡ Some refused.fault)) }
     ensures back { IfErr result (λ refused. refused.regions.items ≡ parts.regions.items) }
 {
+    blocks_joined();
+    objects_without_faults();
     let sized = parts.check_sizes();
     let UncheckedParts {
         version,

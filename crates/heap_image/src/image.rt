@@ -1,16 +1,14 @@
 //! The image: a heap with its live objects, valid by its type.
 ghost use Rattle.std.specs.Prelude.{◌≡◌, ◌<◌, ◌≤◌, ◌^◌, All, IsTrue, Option, Some, None, is_some, length, map, option_map, IfSome};
 ghost use Rattle.std.specs.List.{concat, range_with_len};
-ghost use Rattle.heap_image.specs.HeapImage.{HeapImage, IsValid, AreBlocks, AreValidParts, image_of, versioned_image_of, is_null_or_live, roots_of, heap_words, region_count, region_words, word_at, words_alone, block_of};
+ghost use Rattle.object_heap.specs.HeapImage.{HeapImage, IsValid, AreBlocks, AreValidParts, image_of, versioned_image_of, is_null_or_live, roots_of, heap_words, region_count, region_words, word_at, words_alone, block_of};
 ghost use Rattle.heap_image.specs.ImageText.{with_tail};
-ghost use Rattle.heap_image.specs.Bits.{MarkBegins};
-ghost use Rattle.heap_image.specs.Sizes.{AreSizes};
-ghost use Rattle.heap_image.specs.Version.{has_roots};
+ghost use Rattle.object_heap.specs.Bits.{MarkBegins};
+ghost use Rattle.object_heap.specs.Sizes.{AreSizes};
+ghost use Rattle.object_heap.specs.Version.{has_roots};
 
-use crate::bits::Bits;
-use crate::check::soundness::PIECE;
-use crate::heap::Heap;
-use crate::version::Version;
+use live_objects::PIECE;
+use object_heap::{Bits, Heap, Version, blocks_joined, regions_by_log, roots_are_null_or_live};
 use raw_region::Region;
 use std::marker::Model;
 
@@ -63,7 +61,7 @@ pub struct ImageParts {
 
 impl Model for Image {
     ghost use Rattle.std.specs.Prelude.{option_map};
-    ghost use Rattle.heap_image.specs.HeapImage.{HeapImage, versioned_image_of};
+    ghost use Rattle.object_heap.specs.HeapImage.{HeapImage, versioned_image_of};
     ghost use Rattle.heap_image.specs.Kept.{AreKept};
 
     ghost Value = { HeapImage };
@@ -124,6 +122,7 @@ impl Image {
         ensures whole { self ≡ versioned_image_of result.version result.region_log result.allowance result.regions.items result.live.items (option_map (λ v. v.items) result.roots) }
         ensures blocks { result.regions.items ≡ map (block_of self) (range_with_len 0 (region_count self)) }
     {
+        blocks_joined();
         let Image {
             version,
             region_log,
@@ -159,6 +158,7 @@ impl Image {
         ensures few { result ≤ 1048576 }
         ensures valid { IsValid self.now }
     {
+        regions_by_log();
         1 << self.region_log
     }
 
@@ -174,6 +174,7 @@ impl Image {
         ensures value { result ≡ heap_words self.now }
         ensures valid { IsValid self.now }
     {
+        blocks_joined();
         (self.regions.len() as u64) << self.region_log
     }
 
@@ -182,6 +183,7 @@ impl Image {
         ensures value { result ≡ region_count self.now }
         ensures valid { IsValid self.now }
     {
+        blocks_joined();
         self.regions.len() as u32
     }
 
@@ -190,6 +192,7 @@ impl Image {
         requires { r < region_count self.now }
         ensures { result.now ≡ block_of self.now r }
     {
+        blocks_joined();
         &self.regions[r as usize]
     }
 
@@ -252,6 +255,7 @@ impl Image {
         ensures live { All (λ w. IsTrue (is_null_or_live self.now w)) result.now }
         ensures valid { IsValid self.now }
     {
+        roots_are_null_or_live();
         match &self.roots {
             Some(roots) => roots.as_slice(),
             None => &[],

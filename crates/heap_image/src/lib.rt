@@ -22,44 +22,35 @@
 //! **Only tested**: the wording of the faults, and that fault 11 comes only when memory runs out.
 #![tactic(auto)]
 
-mod bits;
 mod check;
-mod fault;
 mod from_regions;
-pub mod header;
-mod heap;
 mod image;
 mod io;
 mod laws;
-pub mod limits;
 mod marking;
 mod upgrading;
-mod version;
 
-pub use bits::Bits;
-pub use check::soundness::PIECE;
-pub use fault::Fault;
 pub use from_regions::{RefusedRegions, UncheckedParts, image_of_regions};
-pub use heap::Heap;
 pub use image::{Image, ImageParts};
-pub use io::body::Body;
+pub use image_streams::{
+    Body, BodySize, Extent, Failed, Fault, FileStore, FromRead, Intake, Outlet, Store, ToWrite,
+    body_at, give_all,
+};
 pub use io::decoding::{decode, decode_by_threads};
 pub use io::encoding::encode;
-pub use io::front::FRONT_BYTES;
-pub use io::front::body_size::BodySize;
 pub use io::front::length_cause::LengthCause;
-pub use io::intake::{Failed, FromRead, Intake};
-pub use io::outlet::{Outlet, ToWrite, give_all};
+pub use io::front::{FRONT_BYTES, extent_after_front};
 pub use io::read::{read_image, read_image_by_threads, read_image_by_workers};
-pub use io::side_by_side::{Extent, body_at};
-pub use io::store::{FileStore, Store};
 pub use io::write::{write_image, write_image_buffered};
 pub use laws::{
-    blocks_joined, faultless_is_text, faults_of_roots, image_is_valid, inserted_bit, live_laws,
-    live_objects_are_reached, marked_parts_are_valid, one_text, reachable_is_the_least_closed,
-    regions_by_log, roots_are_null_or_live, text_is_faultless, text_is_read_back,
-    text_tells_its_size,
+    faultless_is_text, faults_of_roots, image_is_valid, marked_parts_are_valid, one_text,
+    text_is_faultless, text_is_read_back, text_tells_its_size,
 };
+pub use live_objects::PIECE;
 pub use marking::reach::{mark_from_roots, mark_from_roots_by_workers};
+pub use object_heap::{
+    Bits, Heap, Version, blocks_joined, header, inserted_bit, limits, live_laws,
+    live_objects_are_reached, reachable_is_the_least_closed, regions_by_log,
+    roots_are_null_or_live,
+};
 pub use upgrading::{upgrade, upgrade_stream, upgrade_to};
-pub use version::Version;

@@ -1,18 +1,18 @@
 //! Converts images to later versions.
-ghost use Rattle.std.specs.Prelude.{false, ◌≡◌, ◌≢◌, ◌<◌, ◌⊎◌, ◌+◌, ◌^◌, None, Some, Err, All, true, is_some, length, map, IfOk, IfErr, OnErr, IfSome, IsTrue};
-ghost use Rattle.std.specs.Io.KnownBytes.{Appends};
-ghost use Rattle.heap_image.specs.HeapImage.{HeapImage, roots_of};
 ghost use Rattle.heap_image.specs.ImageText.{text};
 ghost use Rattle.heap_image.specs.Reading.{IsRead};
 ghost use Rattle.heap_image.specs.Refusals.{IsReason, IsOfReading};
-ghost use Rattle.heap_image.specs.Version.{has_roots};
 ghost use Rattle.heap_image.specs.Upgrade.{upgraded, upgraded_to, in_version_three, IsUpgradeBegun};
+ghost use Rattle.object_heap.specs.HeapImage.{HeapImage, roots_of};
+ghost use Rattle.object_heap.specs.Version.{has_roots};
+ghost use Rattle.std.specs.Io.KnownBytes.{Appends};
+ghost use Rattle.std.specs.Prelude.{false, ◌≡◌, ◌≢◌, ◌<◌, ◌⊎◌, ◌+◌, ◌^◌, None, Some, Err, All, true, is_some, length, map, IfOk, IfErr, OnErr, IfSome, IsTrue};
 
-use crate::io::intake::Intake;
-use crate::io::outlet::Outlet;
 use crate::io::read::read_image;
 use crate::io::write::write_image_buffered;
 use crate::{Fault, Image, ImageParts, Version};
+use image_streams::{Intake, Outlet};
+use object_heap::live_objects_are_reached;
 use std::alloc::{AllocError, Global};
 
 /// Converts an image to version 2, with a root to each live object, ascending. The live objects stay the same. An image
@@ -79,6 +79,7 @@ fn with_roots(image: Image, roots: Vec<u64>) -> Image
     requires roots { roots.items ≡ map (λ a. a + 1) image.live }
     ensures { result ≡ upgraded image }
 {
+    live_objects_are_reached();
     let parts = image.into_parts();
     let parts = ImageParts {
         version: Version::Two,

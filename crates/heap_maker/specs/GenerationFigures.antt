@@ -1,6 +1,6 @@
 -- The figures of an image, and their text.
 use Rattle.std.specs.Prelude.{◌≡◌, ℕ, List, ◌++◌, codes, decimal, length}
-use Rattle.heap_image.specs.HeapImage.{HeapImage, heap_words, roots_of}
+use Rattle.object_heap.specs.HeapImage.{HeapImage, heap_words, roots_of}
 use Rattle.heap_maker.specs.declared.figures.GenerationFigures.{GenerationFigures}
 
 -- words, roots and live objects are those of the image

@@ -1,6 +1,6 @@
 -- The heap that is requested.
 use Rattle.std.specs.Prelude.{◌≡◌, ℕ, ◌*◌, ◌/◌}
-use Rattle.heap_image.specs.HeapImage.{HeapImage, IsValid, heap_words, live_words}
+use Rattle.object_heap.specs.HeapImage.{HeapImage, IsValid, heap_words, live_words}
 use Rattle.heap_maker.specs.declared.wanted.Wanted.{Wanted}
 
 -- the number of words of live objects: the requested percentage, rounded down

@@ -1,7 +1,7 @@
 //! Generates heaps.
 ghost use Rattle.std.specs.Prelude.{◌≡◌, ◌<◌, ◌≤◌, ◌^◌, All, IfOk, OnOk, length};
 ghost use Rattle.std.specs.List.{concat};
-ghost use Rattle.heap_image.specs.HeapImage.{AreBlocks, IsValid, heap_words, live_words};
+ghost use Rattle.object_heap.specs.HeapImage.{AreBlocks, IsValid, heap_words, live_words};
 ghost use Rattle.heap_maker.specs.GenerationFigures.{AreFiguresOf};
 ghost use Rattle.heap_maker.specs.Wanted.{IsAsWanted};
 

@@ -1,7 +1,7 @@
 //! The sizes of an image.
 ghost use Rattle.std.specs.Prelude.{◌≡◌, ◌≤◌, ◌*◌, ◌/◌, ◌^◌};
-ghost use Rattle.heap_image.specs.HeapImage.{IsWithinLimits};
-ghost use Rattle.heap_image.specs.Version.{Allows};
+ghost use Rattle.object_heap.specs.HeapImage.{IsWithinLimits};
+ghost use Rattle.object_heap.specs.Version.{Allows};
 
 use heap_image::Version;
 

@@ -1,7 +1,7 @@
 //! The regions of a heap.
 ghost use Rattle.std.specs.Prelude.{◌≡◌, ◌<◌, ◌≤◌, ◌^◌, All, IfOk, length};
 ghost use Rattle.std.specs.List.{concat};
-ghost use Rattle.heap_image.specs.HeapImage.{AreBlocks};
+ghost use Rattle.object_heap.specs.HeapImage.{AreBlocks};
 
 use crate::heap_words::HeapWords;
 use crate::limits::Limits;

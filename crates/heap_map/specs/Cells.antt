@@ -1,7 +1,7 @@
 -- The cells of a map: their words, their live words and their areas.
 use Rattle.std.specs.Prelude.{ℕ, ◌+◌, ◌-◌, ◌*◌, ◌/◌, min, max, ◌&&◌, nat_le, ◌==◌, if◌then◌else◌, List, map}
 use Rattle.std.specs.List.{range_with_len}
-use Rattle.heap_image.specs.HeapImage.{HeapImage, heap_words, last_end, live_words}
+use Rattle.object_heap.specs.HeapImage.{HeapImage, heap_words, last_end, live_words}
 use Rattle.summary.specs.NewAddresses.{prefix_end, new_top}
 use Rattle.summary.specs.Compaction.{compact}
 use Rattle.heap_map.specs.declared.area.Area.{Area}

@@ -1,7 +1,7 @@
 -- The figures of a heap, and how they are printed.
 use Rattle.std.specs.Prelude.{◌≡◌, ℕ, List, ◌++◌, codes, decimal, count_by}
 use Rattle.std.specs.List.{range_with_len}
-use Rattle.heap_image.specs.HeapImage.{HeapImage, heap_words, is_dead_word, live_words}
+use Rattle.object_heap.specs.HeapImage.{HeapImage, heap_words, is_dead_word, live_words}
 use Rattle.summary.specs.NewAddresses.{prefix_end, new_top}
 use Rattle.summary.specs.RegionData.{fill_count}
 use Rattle.heap_map.specs.declared.figures.MapFigures.{MapFigures}

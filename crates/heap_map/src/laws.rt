@@ -1,6 +1,6 @@
 //! Laws about the cells of a map. The functions have no effect: the contract of each is a law.
 ghost use Rattle.std.specs.Prelude.{◌≡◌, true, false, ℕ, ◌+◌, ◌-◌, ◌*◌, ◌<◌, ◌≤◌, List, flat_map, length, sum_by};
-ghost use Rattle.heap_image.specs.HeapImage.{HeapImage, IsValid, heap_words, is_live_word, live_words};
+ghost use Rattle.object_heap.specs.HeapImage.{HeapImage, IsValid, heap_words, is_live_word, live_words};
 ghost use Rattle.summary.specs.Compaction.{compact};
 ghost use Rattle.summary.specs.NewAddresses.{new_top, prefix_end};
 ghost use Rattle.heap_map.specs.Cells.{cell_start, cells_of};

@@ -1,5 +1,5 @@
 ghost use Rattle.std.specs.Prelude.{◌≡◌, ◌+◌, ◌<◌, ◌≤◌, IfOk, vec_len};
-ghost use Rattle.heap_image.specs.HeapImage.{IsValid, heap_words, last_end, live_words};
+ghost use Rattle.object_heap.specs.HeapImage.{IsValid, heap_words, last_end, live_words};
 ghost use Rattle.summary.specs.Compaction.{compact};
 ghost use Rattle.summary.specs.NewAddresses.{new_top, prefix_end};
 ghost use Rattle.heap_map.specs.Cells.{area_of, cell_at, cell_count, cell_start, cells_after, cells_before, cells_of};

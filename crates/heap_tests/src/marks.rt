@@ -1,6 +1,6 @@
 //! Tests of marks of known heaps.
 ghost use Rattle.std.specs.Prelude.{◌≡◌, ◌≤◌, IfOk};
-ghost use Rattle.heap_image.specs.HeapImage.{heap_words};
+ghost use Rattle.object_heap.specs.HeapImage.{heap_words};
 
 mod marking;
 mod reached;

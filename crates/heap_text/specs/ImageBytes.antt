@@ -1,7 +1,8 @@
 -- What is left of the bytes of an image.
 use Rattle.std.specs.Prelude.{◌≡◌, ℕ, List, ◌++◌, drop, flat_map, reverse}
-use Rattle.heap_image.specs.HeapImage.{HeapImage}
-use Rattle.heap_image.specs.ImageText.{numbers, text}
+use Rattle.object_heap.specs.HeapImage.{HeapImage}
+use Rattle.heap_image.specs.ImageText.{text}
+use Rattle.image_streams.specs.Numbers.{numbers}
 use Rattle.heap_text.specs.declared.image_bytes.ImageBytes.{ImageBytes}
 
 -- the numbers that are left: of the current chunk, of those after it, and after the words

@@ -1,8 +1,8 @@
 -- What a parser has of an image before each line, and what is left of its text there.
 use Rattle.std.specs.Prelude.{◌≡◌, ⊤, ℕ, ◌≤◌, Bool, true, false, List, [], ◌∷◌, ◌++◌, codes, take, drop, Result, Ok, Err}
 use Rattle.std.specs.Option.{is_some}
-use Rattle.heap_image.specs.HeapImage.{HeapImage, HasSoundHeader, heap_words, end_of, roots_of}
-use Rattle.heap_image.specs.declared.version.Version.{Version as ImageVersion}
+use Rattle.object_heap.specs.HeapImage.{HeapImage, HasSoundHeader, heap_words, end_of, roots_of}
+use Rattle.object_heap.specs.declared.version.Version.{Version as ImageVersion}
 use Rattle.heap_text.specs.Text.{number_line, roots_line, lines_from, text_of}
 use Rattle.heap_text.specs.TextLines.{ended_lines}
 use Rattle.heap_text.specs.Words.{words_of}

@@ -2,7 +2,7 @@
 use Rattle.std.specs.Prelude.{ℕ, ◌+◌, ◌-◌, nat_le, ◌==◌, Bool, if◌then◌else◌, List, [], ◌∷◌, ◌++◌, codes, decimal, flat_map}
 use Rattle.std.specs.List.{range_with_len, list_all}
 use Rattle.std.specs.Option.{is_some}
-use Rattle.heap_image.specs.HeapImage.{HeapImage, version_of, roots_of, heap_words, word_at, size_at, references_at, end_of}
+use Rattle.object_heap.specs.HeapImage.{HeapImage, version_of, roots_of, heap_words, word_at, size_at, references_at, end_of}
 
 -- the addresses from one up to another
 abbrev pub addresses_between : ℕ → ℕ → List ℕ

@@ -1,7 +1,7 @@
 -- The words that a parser has so far, and the parts of an object's line.
 use Rattle.std.specs.Prelude.{◌≡◌, ⊤, ℕ, ◌+◌, length, List, [], ◌∷◌, ◌++◌, codes, flat_map, ◌==◌, if◌then◌else◌, slice_index, Result, Ok, Err, Bool, true, false}
 use Rattle.std.specs.List.{list_all}
-use Rattle.heap_image.specs.Version.{has_roots}
+use Rattle.object_heap.specs.Version.{has_roots}
 use Rattle.heap_text.specs.Text.{number_text, reference_text}
 use Rattle.heap_text.specs.declared.parsed_heap.ParsedHeap.{ParsedHeap}
 use Rattle.heap_text.specs.declared.word_list.WordList.{WordList}

@@ -1,7 +1,7 @@
 //! Makes the image of a text.
 ghost use Rattle.std.specs.Prelude.{◌≡◌, ◌⊎◌, ◌≤◌, IfOk, IfErr, IfSome, IsTrue, OnOk, Ok, Err, Some, length};
 ghost use Rattle.std.specs.Io.KnownBytes.{IsAtEnd};
-ghost use Rattle.heap_image.specs.HeapImage.{HeapImage, IsValid};
+ghost use Rattle.object_heap.specs.HeapImage.{HeapImage, IsValid};
 ghost use Rattle.heap_text.specs.ImageBytes.{Gives};
 ghost use Rattle.heap_text.specs.Parsing.{AcceptsText, HasContents};
 ghost use Rattle.heap_text.specs.Text.{text_of};

@@ -1,6 +1,6 @@
 //! Gives the bytes of the image of a parsed heap.
 ghost use Rattle.std.specs.Prelude.{◌≡◌, ◌<◌, ◌≤◌, ◌++◌, ◌∷◌, [], true, false, None, IfOk, IfSome, length};
-ghost use Rattle.heap_image.specs.ImageText.{numbers};
+ghost use Rattle.image_streams.specs.Numbers.{numbers};
 ghost use Rattle.heap_text.specs.ImageBytes.{bytes_left, numbers_left};
 ghost use Rattle.heap_text.specs.Words.{words_of};
 

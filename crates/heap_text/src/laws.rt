@@ -1,6 +1,6 @@
 //! Laws of texts. Each function has an empty body, and its contract is the law.
 ghost use Rattle.std.specs.Prelude.{◌≡◌};
-ghost use Rattle.heap_image.specs.HeapImage.{HeapImage, IsValid};
+ghost use Rattle.object_heap.specs.HeapImage.{HeapImage, IsValid};
 ghost use Rattle.heap_text.specs.Text.{text_of};
 
 /// Two valid images with the same text are equal.

@@ -1,7 +1,7 @@
 //! Parses a text line by line.
 ghost use Rattle.std.specs.Prelude.{◌≡◌, ◌<◌, ◌≤◌, ◌++◌, ◌∷◌, ℕ, Bool, true, false, Some, IsTrue, if◌then◌else◌, codes, decimal};
-ghost use Rattle.heap_image.specs.HeapImage.{HeapImage, IsWithinLimits, version_of};
-ghost use Rattle.heap_image.specs.Version.{Allows, has_roots, max_region_log};
+ghost use Rattle.object_heap.specs.HeapImage.{HeapImage, IsWithinLimits, version_of};
+ghost use Rattle.object_heap.specs.Version.{Allows, has_roots, max_region_log};
 ghost use Rattle.heap_text.specs.declared.line_parser.next_line.NextLine.TheVariants.{Roots, Heap};
 
 mod dead_line;
@@ -37,8 +37,8 @@ pub(crate) struct LineParser {
 impl LineParser {
     ghost use Rattle.std.specs.Prelude.{◌+◌, ◌^◌, [], List, OnOk, length};
     ghost use Rattle.std.specs.List.{AllByRecursion};
-    ghost use Rattle.heap_image.specs.Header.{object_header};
-    ghost use Rattle.heap_image.specs.HeapImage.{HeapImage, IsValid};
+    ghost use Rattle.object_heap.specs.Header.{object_header};
+    ghost use Rattle.object_heap.specs.HeapImage.{HeapImage, IsValid};
     ghost use Rattle.heap_text.specs.Text.{number_text, text_of};
     ghost use Rattle.heap_text.specs.TextBytes.{longest};
     ghost use Rattle.heap_text.specs.TextLines.{ended_lines};

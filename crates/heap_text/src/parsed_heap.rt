@@ -1,7 +1,7 @@
 //! The contents of a text before it is known to describe a valid heap.
 ghost use Rattle.std.specs.Prelude.{◌≡◌, ◌<◌, ◌^◌, [], length, if◌then◌else◌};
-ghost use Rattle.heap_image.specs.Version.{has_roots};
-ghost use Rattle.heap_image.specs.ImageText.{front, magic};
+ghost use Rattle.object_heap.specs.Version.{has_roots, magic};
+ghost use Rattle.heap_image.specs.ImageText.{front};
 ghost use Rattle.heap_text.specs.Words.{words_of, tail_of};
 
 use crate::expected::Expected;

@@ -1,7 +1,7 @@
 //! Parses a text in memory or from a device.
 ghost use Rattle.std.specs.Prelude.{◌≡◌, ◌<◌, ◌++◌, ◌≢◌, [], true, false, List, ℕ, IfErr, IfSome, Some, IsTrue, OnOk, length, vec_len};
 ghost use Rattle.std.specs.Io.KnownBytes.{Consumes, IsAtEnd};
-ghost use Rattle.heap_image.specs.HeapImage.{HeapImage, IsValid};
+ghost use Rattle.object_heap.specs.HeapImage.{HeapImage, IsValid};
 ghost use Rattle.heap_text.specs.Parsing.{AcceptsFrom, AcceptsText, HasContents};
 ghost use Rattle.heap_text.specs.Text.{text_of};
 ghost use Rattle.heap_text.specs.TextLines.{IsAbout, IsOfNoLine, IsWithin};

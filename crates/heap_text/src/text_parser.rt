@@ -1,6 +1,6 @@
 //! Splits a text that arrives in pieces into lines, and parses them.
 ghost use Rattle.std.specs.Prelude.{◌≡◌, ◌+◌, ◌-◌, ◌^◌, ◌<◌, ◌≤◌, ◌++◌, ◌∷◌, [], ℕ, List, IfErr, OnOk, Ok, true, length};
-ghost use Rattle.heap_image.specs.HeapImage.{HeapImage, IsValid};
+ghost use Rattle.object_heap.specs.HeapImage.{HeapImage, IsValid};
 ghost use Rattle.heap_text.specs.Parsing.{AcceptsText, Expects, HasContents, IsWaiting};
 ghost use Rattle.heap_text.specs.Text.{text_of};
 ghost use Rattle.std.specs.List.{list_all};

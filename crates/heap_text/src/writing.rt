@@ -1,6 +1,6 @@
 //! Writes an image as a text.
 ghost use Rattle.std.specs.Prelude.{◌≡◌, ◌++◌, ◌+◌, ◌-◌, ◌≤◌, ◌<◌, IfOk, OnOk, List, ℕ, IsTrue, codes, string_bytes};
-ghost use Rattle.heap_image.specs.HeapImage.{HasSoundHeader, end_of, heap_words};
+ghost use Rattle.object_heap.specs.HeapImage.{HasSoundHeader, end_of, heap_words};
 ghost use Rattle.heap_text.specs.Text.{are_equal, dead_text, dead_words_text, front_text, number_line, lines_from, number_text, numbers_text, object_text, reference_text, references_text, roots_line, roots_text, text_of};
 
 use heap_image::{Image, header, image_is_valid};

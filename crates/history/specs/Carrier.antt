@@ -1,6 +1,6 @@
 -- The copying of words by the word machine.
 use Rattle.std.specs.Prelude.{◌≡◌, ℕ, ◌+◌, ◌<◌, Bool, false, ◌||◌, ◌&&◌, nat_lt, nat_le, List, length, slice_index, slice_index_or, Some}
-use Rattle.heap_image.specs.HeapImage.{HeapImage, IsValid, heap_words}
+use Rattle.object_heap.specs.HeapImage.{HeapImage, IsValid, heap_words}
 use Rattle.summary.specs.NewAddresses.{prefix_end, new_top}
 use Rattle.summary.specs.WordMoves.{origin}
 use Rattle.summary.specs.Updates.{is_late_reference}

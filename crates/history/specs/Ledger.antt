@@ -1,6 +1,6 @@
 -- How a ledger relates to the word machine.
 use Rattle.std.specs.Prelude.{◌≡◌, ℕ, ◌+◌, ◌-◌, min, List, length, slice_index, slice_set}
-use Rattle.heap_image.specs.HeapImage.{HeapImage, region_words, region_count, start_of}
+use Rattle.object_heap.specs.HeapImage.{HeapImage, region_words, region_count, start_of}
 use Rattle.summary.specs.RegionData.{destination, data_words}
 use Rattle.scheduler.specs.Scheduler.{state_in}
 use Rattle.scheduler.specs.ImageMoves.{image_table}

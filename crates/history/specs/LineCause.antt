@@ -1,6 +1,6 @@
 -- Why the word machine refuses a line of a schedule.
 use Rattle.std.specs.Prelude.{◌≡◌, ◌≢◌, ℕ, Some}
-use Rattle.heap_image.specs.HeapImage.{HeapImage}
+use Rattle.object_heap.specs.HeapImage.{HeapImage}
 use Rattle.scheduler.specs.History.{entry}
 use Rattle.scheduler.specs.Schedule.{ScheduleView}
 use Rattle.scheduler.specs.ImageMoves.{image_table}

@@ -1,6 +1,6 @@
 -- What the proofs of the word machine use of other laws. A lemma is handed these by a function that calls `machine_laws`.
 use Rattle.std.specs.Prelude.{◌≡◌, ℕ, ◌<◌, ◌≤◌, not, ◌==◌, ◌&&◌, IsTrue, List}
-use Rattle.heap_image.specs.HeapImage.{HeapImage, IsValid}
+use Rattle.object_heap.specs.HeapImage.{HeapImage, IsValid}
 use Rattle.summary.specs.WordMoves.{reads as image_reads}
 use Rattle.summary.specs.PlanLaws.{PlanLaws}
 use Rattle.scheduler.specs.MoveTable.{MoveTable, IsMoveTable, reads}

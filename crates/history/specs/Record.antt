@@ -1,6 +1,6 @@
 -- A schedule recorded to the end of a collection.
 use Rattle.std.specs.Prelude.{◌≡◌, ℕ, List}
-use Rattle.heap_image.specs.HeapImage.{HeapImage}
+use Rattle.object_heap.specs.HeapImage.{HeapImage}
 use Rattle.scheduler.specs.State.{AllAreSettled}
 use Rattle.scheduler.specs.Schedule.{ScheduleView, schedule_of}
 use Rattle.scheduler.specs.ImageMoves.{image_table}

@@ -1,6 +1,6 @@
 -- The result of a replay: the calls, or the first line that the word machine refuses.
 use Rattle.std.specs.Prelude.{◌≡◌, ℕ, ◌+◌, ◌⊎◌, ◌↔◌, Bool, IsTrue, List, [], ◌∷◌, ◌++◌, length, Some, None}
-use Rattle.heap_image.specs.HeapImage.{HeapImage}
+use Rattle.object_heap.specs.HeapImage.{HeapImage}
 use Rattle.scheduler.specs.State.{AllAreSettled}
 use Rattle.scheduler.specs.Schedule.{ScheduleView}
 use Rattle.scheduler.specs.ImageMoves.{image_table}

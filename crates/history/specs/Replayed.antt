@@ -1,6 +1,6 @@
 -- The result of a replay.
 use Rattle.std.specs.Prelude.{◌≡◌, ℕ, ◌+◌, ◌<◌, ◌↔◌, Bool, IsTrue, List, length, map, slice_index}
-use Rattle.heap_image.specs.HeapImage.{HeapImage, heap_words, start_of}
+use Rattle.object_heap.specs.HeapImage.{HeapImage, heap_words, start_of}
 use Rattle.summary.specs.Compaction.{compact}
 use Rattle.scheduler.specs.State.{AllAreSettled}
 use Rattle.scheduler.specs.ImageMoves.{image_table}

@@ -1,7 +1,7 @@
 -- The word machine over an image, and what holds for every list of calls that it allows.
 use Rattle.std.specs.Prelude.{◌≡◌, ℕ, Bool, not, ◌&&◌, if◌then◌else◌, List}
 use Rattle.std.specs.List.{list_any}
-use Rattle.heap_image.specs.HeapImage.{HeapImage, region_words, word_at}
+use Rattle.object_heap.specs.HeapImage.{HeapImage, region_words, word_at}
 use Rattle.summary.specs.NewAddresses.{new_top}
 use Rattle.summary.specs.WordMoves.{origin}
 use Rattle.summary.specs.Fillers.{filler_word}

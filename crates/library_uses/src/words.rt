@@ -1,7 +1,7 @@
 //! A heap of cells whose words and roots the caller keeps.
 ghost use Rattle.std.specs.Prelude.{◌≡◌, Some, IfOk, OnErr};
-ghost use Rattle.heap_image.specs.declared.version.Version.TheVariants.{Three};
-ghost use Rattle.heap_image.specs.HeapImage.{HeapImage, IsValid};
+ghost use Rattle.object_heap.specs.declared.version.Version.TheVariants.{Three};
+ghost use Rattle.object_heap.specs.HeapImage.{HeapImage, IsValid};
 ghost use Rattle.heap_image.specs.ImageText.{text};
 ghost use Rattle.summary.specs.Compaction.{compact};
 ghost use Rattle.caller_heap.specs.HeapWords.{heap_bytes};

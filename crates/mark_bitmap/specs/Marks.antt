@@ -1,8 +1,8 @@
 -- The marks of an image.
 use Rattle.std.specs.Prelude.{◌≡◌, ℕ, ◌+◌, ◌*◌, ◌/◌, ◌<◌, ◌≤◌, ◌==◌, ◌&&◌, nat_lt, min, Bool, List, All, length, slice_index}
 use Rattle.std.specs.List.{list_any}
-use Rattle.heap_image.specs.HeapImage.{HeapImage, IsValid, heap_words, region_words, region_of, start_of, end_of, is_word_of, is_live_word, live_words}
-use Rattle.heap_image.specs.Bits.{has, room}
+use Rattle.object_heap.specs.HeapImage.{HeapImage, IsValid, heap_words, region_words, region_of, start_of, end_of, is_word_of, is_live_word, live_words}
+use Rattle.object_heap.specs.Bits.{has, room}
 
 -- words of bits, of which the first has the bits of the addresses from 64 * start on
 abbrev pub AreBitsFrom : (ℕ → Bool) → ℕ → List ℕ → Type 0

@@ -1,5 +1,5 @@
 //! Laws of marks. The functions do nothing: each one's contract is a law.
-ghost use Rattle.heap_image.specs.HeapImage.{IsValid};
+ghost use Rattle.object_heap.specs.HeapImage.{IsValid};
 
 use crate::marks::Marks;
 

@@ -1,6 +1,6 @@
 //! Sets the live bits of an image in parts, each in a thread.
 ghost use Rattle.std.specs.Prelude.{◌≡◌, ◌+◌, ◌<◌, length};
-ghost use Rattle.heap_image.specs.HeapImage.{is_live_word};
+ghost use Rattle.object_heap.specs.HeapImage.{is_live_word};
 ghost use Rattle.mark_bitmap.specs.Marks.{AreBegins, AreBitsFrom, IsBlankPart};
 
 use crate::objects::mark_part;

@@ -2,8 +2,8 @@
 ghost use Rattle.std.specs.Prelude.{◌≡◌, ℕ, ◌+◌, ◌-◌, ◌*◌, ◌<◌, ◌≤◌, ◌==◌, IsTrue, IfOk, MatchOption, length};
 ghost use Rattle.std.specs.Int.{bit_at};
 ghost use Rattle.std.specs.Arc.{arc_value};
-ghost use Rattle.heap_image.specs.HeapImage.{IsValid, heap_words, is_live_word, is_dead_word, live_words, size_at};
-ghost use Rattle.heap_image.specs.Bits.{NoneFrom, IsFirstFrom, NoneBetween, IsFirstBetween};
+ghost use Rattle.object_heap.specs.HeapImage.{IsValid, heap_words, is_live_word, is_dead_word, live_words, size_at};
+ghost use Rattle.object_heap.specs.Bits.{NoneFrom, IsFirstFrom, NoneBetween, IsFirstBetween};
 ghost use Rattle.mark_bitmap.specs.Marks.{AreBegins, AreBitsFrom, AreLiveBits, bit_words, continues_at, is_begin, is_end, block_words, block_count, block_live};
 
 use crate::laws::marked_image_is_valid;
@@ -42,7 +42,7 @@ impl Drop for Marks {
 
 impl Model for Marks {
     ghost use Rattle.std.specs.Arc.{arc_value};
-    ghost use Rattle.heap_image.specs.HeapImage.{HeapImage};
+    ghost use Rattle.object_heap.specs.HeapImage.{HeapImage};
     ghost use Rattle.mark_bitmap.specs.Marks.{AreMarks};
 
     ghost Value = { HeapImage };

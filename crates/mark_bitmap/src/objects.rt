@@ -1,9 +1,9 @@
 //! Sets the bits of the live objects.
 ghost use Rattle.std.specs.Prelude.{◌≡◌, ℕ, ◌+◌, ◌-◌, ◌*◌, ◌%◌, ◌^◌, ◌<◌, ◌≤◌, ◌==◌, ◌||◌, All, IfOk, IfSome, nat_lt, length, map, slice_index, take, drop};
 ghost use Rattle.std.specs.List.{list_any};
-ghost use Rattle.heap_image.specs.HeapImage.{IsValid, HasSoundHeader, end_of, size_at, is_live_word};
-ghost use Rattle.heap_image.specs.Bits.{has, room};
-ghost use Rattle.heap_image.specs.Sizes.{AreSizesOf};
+ghost use Rattle.object_heap.specs.HeapImage.{IsValid, HasSoundHeader, end_of, size_at, is_live_word};
+ghost use Rattle.object_heap.specs.Bits.{has, room};
+ghost use Rattle.object_heap.specs.Sizes.{AreSizesOf};
 ghost use Rattle.mark_bitmap.specs.Marks.{AreBegins, AreBitsFrom, IsBlankPart, IsFirstObject, bit_words, continues_at, is_end};
 
 use crate::part_bits::insert_within;

@@ -1,7 +1,7 @@
 //! Inserts addresses into a part of a larger bit set.
 ghost use Rattle.std.specs.Prelude.{◌≡◌, ℕ, ◌+◌, ◌<◌, ◌==◌, ◌||◌, ◌^◌, length};
 ghost use Rattle.std.specs.List.{list_any};
-ghost use Rattle.heap_image.specs.Bits.{has, room};
+ghost use Rattle.object_heap.specs.Bits.{has, room};
 
 use heap_image::inserted_bit;
 

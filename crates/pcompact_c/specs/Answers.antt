@@ -1,6 +1,6 @@
 -- What calls answer about an image.
 use Rattle.std.specs.Prelude.{◌≡◌}
-use Rattle.heap_image.specs.HeapImage.{HeapImage}
+use Rattle.object_heap.specs.HeapImage.{HeapImage}
 use Rattle.summary.specs.NewAddresses.{prefix_end, new_top}
 use Rattle.summary.specs.RegionData.{fill_count}
 use Rattle.pcompact_c.specs.declared.answers.answer.PcompactAnswer.{PcompactAnswer}

@@ -1,6 +1,6 @@
 -- What decoding tells and writes.
 use Rattle.std.specs.Prelude.{◌≡◌, ℕ, ◌<◌, ◌≤◌, List, ◌++◌, length, drop}
-use Rattle.heap_image.specs.HeapImage.{HeapImage, heap_words, version_of}
+use Rattle.object_heap.specs.HeapImage.{HeapImage, heap_words, version_of}
 use Rattle.pcompact_c.specs.declared.answers.heap.PcompactHeap.{PcompactHeap}
 
 -- the struct tells of an image with these live addresses or roots

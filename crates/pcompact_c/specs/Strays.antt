@@ -1,8 +1,8 @@
 -- References that a host keeps outside of its heap.
 use Rattle.std.specs.Prelude.{◌≡◌, ◌⊎◌, ℕ, ◌<◌, List, length, slice_index, IsTrue, false, Some}
-use Rattle.heap_image.specs.declared.fault.Fault.{Fault}
-use Rattle.heap_image.specs.declared.fault.Fault.TheVariants.{Memory, Root}
-use Rattle.heap_image.specs.HeapImage.{HeapImage, IsValid, is_null_or_live}
+use Rattle.image_streams.specs.declared.fault.Fault.{Fault}
+use Rattle.image_streams.specs.declared.fault.Fault.TheVariants.{Memory, Root}
+use Rattle.object_heap.specs.HeapImage.{HeapImage, IsValid, is_null_or_live}
 use Rattle.heap_image.specs.ImageText.{text, first_fault}
 
 -- i is the least index of a reference that is neither null nor to a live object

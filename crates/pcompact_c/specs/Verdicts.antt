@@ -1,8 +1,8 @@
 -- What a comparison tells.
 use Rattle.std.specs.Prelude.{◌≡◌, ◌⊎◌, ℕ, List, Some}
-use Rattle.heap_image.specs.declared.fault.Fault.{Fault}
-use Rattle.heap_image.specs.declared.fault.Fault.TheVariants.{Memory}
-use Rattle.heap_image.specs.HeapImage.{HeapImage, IsValid}
+use Rattle.image_streams.specs.declared.fault.Fault.{Fault}
+use Rattle.image_streams.specs.declared.fault.Fault.TheVariants.{Memory}
+use Rattle.object_heap.specs.HeapImage.{HeapImage, IsValid}
 use Rattle.heap_image.specs.ImageText.{text, first_fault}
 use Rattle.summary.specs.Compaction.{compact}
 use Rattle.verification.specs.Verdict.{IsVerdict}

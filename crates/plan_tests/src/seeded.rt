@@ -1,6 +1,6 @@
 //! Compares the plans of pseudo-random heaps with plain counts over their live words.
 ghost use Rattle.std.specs.Prelude.{◌≡◌, ◌<◌};
-ghost use Rattle.heap_image.specs.HeapImage.{region_count};
+ghost use Rattle.object_heap.specs.HeapImage.{region_count};
 
 use crate::checks::equal;
 use crate::known_heaps::image_of;

@@ -1,6 +1,6 @@
 -- The words of a region once it has moved.
 use Rattle.std.specs.Prelude.{ℕ, List, map}
-use Rattle.heap_image.specs.HeapImage.{HeapImage}
+use Rattle.object_heap.specs.HeapImage.{HeapImage}
 use Rattle.summary.specs.Compaction.{moved_word}
 use Rattle.summary.specs.RegionData.{region_addresses}
 

@@ -2,8 +2,8 @@
 use Rattle.std.specs.Prelude.{◌≡◌, ℕ, ◌≤◌, List, [], ◌∷◌, map, None, option_map}
 use Rattle.std.specs.List.{range_with_len}
 use Rattle.std.specs.Vec.{vec_capacity}
-use Rattle.heap_image.specs.HeapImage.{HeapImage, IsValid, region_count}
-use Rattle.heap_image.specs.declared.version.Version.TheVariants.{One}
+use Rattle.object_heap.specs.HeapImage.{HeapImage, IsValid, region_count}
+use Rattle.object_heap.specs.declared.version.Version.TheVariants.{One}
 use Rattle.heap_image.specs.declared.image.ImageParts.{ImageParts}
 use Rattle.summary.specs.RegionData.{fill_count}
 use Rattle.region_cells.specs.Views.{ImageRegion}

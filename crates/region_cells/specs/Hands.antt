@@ -1,6 +1,6 @@
 -- What a reader and a writer hold.
 use Rattle.std.specs.Prelude.{◌≡◌, ℕ, ◌<◌, List, length, Option, Some}
-use Rattle.heap_image.specs.HeapImage.{HeapImage, IsValid, region_words, region_count, block_of}
+use Rattle.object_heap.specs.HeapImage.{HeapImage, IsValid, region_words, region_count, block_of}
 use Rattle.region_cells.specs.declared.kept.Kept.{Kept}
 use Rattle.region_cells.specs.declared.kept.Kept.TheVariants.{Original}
 use Rattle.region_cells.specs.Views.{ImageRegion}

@@ -1,6 +1,6 @@
 -- The words of a cell.
 use Rattle.std.specs.Prelude.{◌≡◌}
-use Rattle.heap_image.specs.HeapImage.{block_of}
+use Rattle.object_heap.specs.HeapImage.{block_of}
 use Rattle.region_cells.specs.declared.kept.Kept.{Kept}
 use Rattle.region_cells.specs.declared.kept.Kept.TheVariants.{Original, Moved, Spoiled}
 use Rattle.region_cells.specs.Blocks.{moved_block}

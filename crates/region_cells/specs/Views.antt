@@ -1,6 +1,6 @@
 -- How contracts view a region that is read, written or put back.
 use Rattle.std.specs.Prelude.{ℕ, List}
-use Rattle.heap_image.specs.HeapImage.{HeapImage, block_of}
+use Rattle.object_heap.specs.HeapImage.{HeapImage, block_of}
 use Rattle.claim_board.specs.declared.tokens.opening.Opening.{Opening}
 use Rattle.claim_board.specs.declared.tokens.right.Right.{Right}
 

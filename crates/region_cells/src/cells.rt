@@ -1,8 +1,8 @@
 ghost use Rattle.std.specs.Prelude.{◌≡◌, ℕ, ◌+◌, ◌<◌, ◌≤◌, ◌∷◌, [], ◌++◌, length, map, option_map, IfOk, IfErr, IfSome, vec_len};
 ghost use Rattle.std.specs.List.{range_with_len};
 ghost use Rattle.std.specs.Vec.{vec_capacity};
-ghost use Rattle.heap_image.specs.HeapImage.{IsValid, region_words, region_count, block_of};
-ghost use Rattle.heap_image.specs.declared.fault.Fault.TheVariants.{Overwritten};
+ghost use Rattle.object_heap.specs.HeapImage.{IsValid, region_words, region_count, block_of};
+ghost use Rattle.image_streams.specs.declared.fault.Fault.TheVariants.{Overwritten};
 ghost use Rattle.region_cells.specs.Blocks.{moved_block};
 ghost use Rattle.region_cells.specs.Cells.{places};
 
@@ -43,7 +43,7 @@ impl Drop for Cells {
 }
 
 impl Model for Cells {
-    ghost use Rattle.heap_image.specs.HeapImage.{HeapImage};
+    ghost use Rattle.object_heap.specs.HeapImage.{HeapImage};
     ghost use Rattle.region_cells.specs.Cells.{image_in, AreCells};
 
     ghost Value = { HeapImage };

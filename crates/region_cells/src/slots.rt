@@ -1,6 +1,6 @@
 //! The state word of a cell's slot, which says who may have its region.
 ghost use Rattle.std.specs.Prelude.{◌≡◌, ◌+◌, ◌%◌, ◌<◌, ◌≤◌, ◌↔◌, IsTrue, IfSome, if◌then◌else◌};
-ghost use Rattle.heap_image.specs.HeapImage.{block_of};
+ghost use Rattle.object_heap.specs.HeapImage.{block_of};
 ghost use Rattle.region_cells.specs.Blocks.{moved_block};
 
 use crate::kept::Kept;

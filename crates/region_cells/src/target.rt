@@ -1,6 +1,6 @@
 ghost use Rattle.std.specs.Prelude.{◌≡◌, ◌+◌, ◌<◌, ◌≤◌, length, replicate, slice_index, slice_set, map, All, IsTrue, IfOk, IfErr};
-ghost use Rattle.heap_image.specs.HeapImage.{IsValid, region_words, region_count, block_of, is_null_or_live};
-ghost use Rattle.heap_image.specs.declared.fault.Fault.TheVariants.{Overwritten};
+ghost use Rattle.object_heap.specs.HeapImage.{IsValid, region_words, region_count, block_of, is_null_or_live};
+ghost use Rattle.image_streams.specs.declared.fault.Fault.TheVariants.{Overwritten};
 ghost use Rattle.raw_region.specs.Region.{with_words, part};
 ghost use Rattle.summary.specs.Compaction.{redirected};
 ghost use Rattle.region_cells.specs.Blocks.{moved_block};

@@ -1,7 +1,7 @@
 -- The bars and marks of a history: a bar for each grant, and a mark for each drain that frees a region.
 use Rattle.std.specs.Prelude.{◌≡◌, ℕ, ◌+◌, ◌==◌, Bool, false, if◌then◌else◌, List, Option, Some, None, option_map, slice_get}
 use Rattle.std.specs.List.{enumerate_from, filter_map}
-use Rattle.heap_image.specs.HeapImage.{HeapImage}
+use Rattle.object_heap.specs.HeapImage.{HeapImage}
 use Rattle.scheduler.specs.State.{AllAreSettled}
 use Rattle.scheduler.specs.History.{is_grant, is_settling_of}
 use Rattle.scheduler.specs.Whole.{is_completion_of}

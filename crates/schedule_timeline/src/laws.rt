@@ -1,6 +1,6 @@
 //! Laws about schedules that the word machine accepts. The function has no effect: its contract is the law.
 ghost use Rattle.std.specs.Prelude.{ℕ, List};
-ghost use Rattle.heap_image.specs.HeapImage.{HeapImage, region_count};
+ghost use Rattle.object_heap.specs.HeapImage.{HeapImage, region_count};
 ghost use Rattle.history.specs.Replay.{IsReplay};
 ghost use Rattle.scheduler.specs.declared.entry.Entry.{Entry};
 ghost use Rattle.scheduler.specs.declared.schedule.line.Line.{Line};

@@ -1,5 +1,5 @@
 ghost use Rattle.std.specs.Prelude.{◌≡◌, ◌<◌, ◌^◌, ◌⊎◌, ℕ, IfOk, IfErr, length, string_bytes};
-ghost use Rattle.heap_image.specs.declared.fault.Fault.{Fault};
+ghost use Rattle.image_streams.specs.declared.fault.Fault.{Fault};
 ghost use Rattle.history.specs.Replay.{IsRefusedAt};
 ghost use Rattle.history.specs.ScheduleText.{schedule_text};
 ghost use Rattle.schedule_timeline.specs.TimelineFigures.{BeginsWithFigures, IsFiguresLine};

@@ -1,7 +1,7 @@
 -- The moves of an image as a table.
 use Rattle.std.specs.Prelude.{ℕ, not, ◌&&◌, ◌==◌, List, map, filter, flat_map}
 use Rattle.std.specs.List.{range_with_len}
-use Rattle.heap_image.specs.HeapImage.{HeapImage, region_count}
+use Rattle.object_heap.specs.HeapImage.{HeapImage, region_count}
 use Rattle.summary.specs.WordMoves.{reads, is_to_fill}
 use Rattle.scheduler.specs.MoveTable.{MoveTable}
 

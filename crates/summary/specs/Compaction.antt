@@ -1,7 +1,7 @@
 -- The compacted heap, and the heap between the moves and the update of deferred objects.
 use Rattle.std.specs.Prelude.{ℕ, ◌+◌, ◌-◌, Bool, true, not, ◌&&◌, nat_lt, nat_le, ◌==◌, if◌then◌else◌, List, map, Option, Some, None, option_map}
 use Rattle.std.specs.List.{list_any, range_with_len}
-use Rattle.heap_image.specs.HeapImage.{HeapImage, heap_words, region_of, word_at, size_at, references_at}
+use Rattle.object_heap.specs.HeapImage.{HeapImage, heap_words, region_of, word_at, size_at, references_at}
 use Rattle.summary.specs.NewAddresses.{new_address, new_end_of, new_live, new_top}
 use Rattle.summary.specs.WordMoves.{origin}
 use Rattle.summary.specs.Fillers.{filler_word}

@@ -1,8 +1,8 @@
 -- The fillers, which make the dead words of the dense prefix walkable.
 use Rattle.std.specs.Prelude.{◌≡◌, ℕ, ◌+◌, ◌-◌, ◌*◌, ◌/◌, ◌%◌, ◌<◌, ◌≤◌, ◌||◌, ◌==◌, min, Bool, true, false, if◌then◌else◌}
 use Rattle.std.specs.List.{range_with_len, prefix_len}
-use Rattle.heap_image.specs.Header.{filler_header}
-use Rattle.heap_image.specs.HeapImage.{HeapImage, is_live_word, is_dead_word}
+use Rattle.object_heap.specs.Header.{filler_header}
+use Rattle.object_heap.specs.HeapImage.{HeapImage, is_live_word, is_dead_word}
 use Rattle.summary.specs.NewAddresses.{prefix_end}
 
 module _ (image : HeapImage) where

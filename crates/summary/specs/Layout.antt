@@ -1,7 +1,7 @@
 -- What is known about the regions before their sources.
 use Rattle.std.specs.Prelude.{◌≡◌, ℕ, ◌+◌, ◌<◌, ◌≤◌, IsTrue, List, length, map, slice_index, false, None}
 use Rattle.std.specs.List.{range_with_len}
-use Rattle.heap_image.specs.HeapImage.{HeapImage, region_words, region_count, start_of}
+use Rattle.object_heap.specs.HeapImage.{HeapImage, region_words, region_count, start_of}
 use Rattle.mark_bitmap.specs.Marks.{is_begin}
 use Rattle.summary.specs.NewAddresses.{prefix_end, new_top}
 use Rattle.summary.specs.RegionData.{partial_words, own_words, region_data}

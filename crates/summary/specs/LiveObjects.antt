@@ -1,6 +1,6 @@
 -- The live objects of an image, by their indices in the live list.
 use Rattle.std.specs.Prelude.{ℕ, ◌<◌, ◌≤◌, length, slice_index}
-use Rattle.heap_image.specs.HeapImage.{HeapImage}
+use Rattle.object_heap.specs.HeapImage.{HeapImage}
 use Rattle.summary.specs.NewAddresses.{new_address}
 
 -- the number of live objects

@@ -1,7 +1,7 @@
 -- The dense prefix, the new addresses of the live objects and the new top.
 use Rattle.std.specs.Prelude.{◌≡◌, ℕ, zero, suc, ◌+◌, ◌*◌, ◌/◌, ◌%◌, ◌≤◌, max, Bool, nat_lt, nat_le, if◌then◌else◌, List, filter, map, fold, count_by}
 use Rattle.std.specs.List.{range_with_len}
-use Rattle.heap_image.specs.HeapImage.{HeapImage, region_words, size_at, end_of, is_dead_word, last_end}
+use Rattle.object_heap.specs.HeapImage.{HeapImage, region_words, size_at, end_of, is_dead_word, last_end}
 
 -- the greatest number up to n that passes the test, or 0 if none does
 abbrev pub greatest : (ℕ → Bool) → ℕ → ℕ

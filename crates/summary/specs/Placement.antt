@@ -1,6 +1,6 @@
 -- What the plain program keeps: the prefix end of an image, and the new addresses of its live objects.
 use Rattle.std.specs.Prelude.{◌≡◌, ℕ, ◌^◌, ◌<◌}
-use Rattle.heap_image.specs.HeapImage.{HeapImage}
+use Rattle.object_heap.specs.HeapImage.{HeapImage}
 use Rattle.summary.specs.NewAddresses.{prefix_end, new_live, new_top}
 use Rattle.summary.specs.declared.plainly.Placement.{Placement}
 

@@ -1,7 +1,7 @@
 -- What a plan keeps about an image, and the regions that a region reads.
 use Rattle.std.specs.Prelude.{◌≡◌, ℕ, ◌+◌, ◌-◌, List, map, filter, Option, Some, None}
 use Rattle.std.specs.List.{range_with_len}
-use Rattle.heap_image.specs.HeapImage.{HeapImage, IsValid, region_count, start_of}
+use Rattle.object_heap.specs.HeapImage.{HeapImage, IsValid, region_count, start_of}
 use Rattle.summary.specs.NewAddresses.{prefix_end, new_top}
 use Rattle.summary.specs.WordMoves.{reads}
 use Rattle.summary.specs.RegionData.{region_data, deferred}

@@ -2,8 +2,8 @@
 -- `plan_laws`.
 use Rattle.std.specs.Prelude.{◌≡◌, ℕ, ◌+◌, ◌-◌, ◌%◌, ◌≤◌, ◌<◌, nat_lt, Bool, true, false, cond, ◌&&◌, List, Option, Some, None, map, option_map}
 use Rattle.std.specs.List.{range_with_len, list_any}
-use Rattle.heap_image.specs.declared.version.Version.{Version}
-use Rattle.heap_image.specs.HeapImage.{HeapImage, HasLiveList, IsValid, AreBlocks, versioned_image_of, heap_words, region_words, region_count, region_of, start_of, word_at, size_at, references_at, end_of, is_live_word, live_words}
+use Rattle.object_heap.specs.declared.version.Version.{Version}
+use Rattle.object_heap.specs.HeapImage.{HeapImage, HasLiveList, IsValid, AreBlocks, versioned_image_of, heap_words, region_words, region_count, region_of, start_of, word_at, size_at, references_at, end_of, is_live_word, live_words}
 use Rattle.summary.specs.LiveObjects.{object_count, object_at}
 use Rattle.summary.specs.NewAddresses.{prefix_end, new_address, new_end_of, new_live, new_top}
 use Rattle.summary.specs.WordMoves.{slid, origin, reads, is_to_fill}

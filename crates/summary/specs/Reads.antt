@@ -1,7 +1,7 @@
 -- The regions that are still to be read.
 use Rattle.std.specs.Prelude.{◌≡◌, ℕ, ◌-◌, ◌+◌, ◌^◌, ◌≤◌, ◌<◌, Bool, ◌&&◌, nat_lt, List, filter, length, slice_index_or, None, false}
 use Rattle.std.specs.List.{range_with_len}
-use Rattle.heap_image.specs.HeapImage.{HeapImage, region_words, region_count, start_of}
+use Rattle.object_heap.specs.HeapImage.{HeapImage, region_words, region_count, start_of}
 use Rattle.summary.specs.WordMoves.{reads}
 use Rattle.summary.specs.RegionData.{region_data}
 use Rattle.summary.specs.declared.region_data.RegionData.{RegionData}

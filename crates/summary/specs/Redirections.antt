@@ -2,7 +2,7 @@
 use Rattle.std.specs.Prelude.{◌≡◌, ℕ, ◌+◌, ◌-◌, ◌*◌, ◌<◌, Bool, ◌||◌, nat_lt, ◌==◌, List, map, count_by}
 use Rattle.std.specs.List.{range_with_len}
 use Rattle.std.specs.Int.{bit_at}
-use Rattle.heap_image.specs.HeapImage.{HeapImage, IsValid, is_live_word, live_words}
+use Rattle.object_heap.specs.HeapImage.{HeapImage, IsValid, is_live_word, live_words}
 use Rattle.mark_bitmap.specs.Marks.{AreLiveBits, bit_words}
 use Rattle.summary.specs.NewAddresses.{prefix_end}
 

@@ -2,7 +2,7 @@
 use Rattle.std.specs.Prelude.{ℕ, ◌+◌, ◌-◌, Bool, not, ◌&&◌, nat_lt, nat_le, ◌==◌, if◌then◌else◌, List, Option, None, option_map, find, count_by}
 use Rattle.std.specs.List.{list_any, range_with_len}
 use Rattle.std.specs.Int.{div_ceil}
-use Rattle.heap_image.specs.HeapImage.{HeapImage, region_words, region_count, region_of, start_of, is_word_of}
+use Rattle.object_heap.specs.HeapImage.{HeapImage, region_words, region_count, region_of, start_of, is_word_of}
 use Rattle.summary.specs.NewAddresses.{prefix_end, new_address, new_top}
 use Rattle.summary.specs.WordMoves.{word_moves, origin, reads, is_to_fill}
 use Rattle.summary.specs.Compaction.{is_deferred}

@@ -1,6 +1,6 @@
 -- Two heaps with the same graph of live objects: the i-th live object of one corresponds to the i-th of the other.
 use Rattle.std.specs.Prelude.{◌≡◌, ◌↔◌, ℕ, ◌+◌, ◌<◌}
-use Rattle.heap_image.specs.HeapImage.{HeapImage, word_at, size_at, references_at, reference_at}
+use Rattle.object_heap.specs.HeapImage.{HeapImage, word_at, size_at, references_at, reference_at}
 use Rattle.summary.specs.LiveObjects.{object_count, object_at}
 
 pub record IsSameGraph (before after : HeapImage) : Type 0 where

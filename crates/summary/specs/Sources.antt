@@ -1,6 +1,6 @@
 -- The sources of the regions, set one by one.
 use Rattle.std.specs.Prelude.{◌≡◌, ℕ, ◌<◌, nat_lt, if◌then◌else◌, Option, Some, None}
-use Rattle.heap_image.specs.HeapImage.{HeapImage, region_count}
+use Rattle.object_heap.specs.HeapImage.{HeapImage, region_count}
 use Rattle.summary.specs.RegionData.{region_data, source}
 use Rattle.summary.specs.declared.region_data.RegionData.{RegionData}
 

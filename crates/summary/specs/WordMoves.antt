@@ -1,7 +1,7 @@
 -- The new address of each live word.
 use Rattle.std.specs.Prelude.{ℕ, ◌+◌, Bool, ◌&&◌, nat_lt, ◌==◌, if◌then◌else◌, List, map, Option, option_map, find, flat_map}
 use Rattle.std.specs.List.{list_any, range_with_len}
-use Rattle.heap_image.specs.HeapImage.{HeapImage, region_of, start_of, size_at, live_words}
+use Rattle.object_heap.specs.HeapImage.{HeapImage, region_of, start_of, size_at, live_words}
 use Rattle.summary.specs.NewAddresses.{prefix_end, new_address, new_top}
 
 module _ (image : HeapImage) where

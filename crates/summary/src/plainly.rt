@@ -5,7 +5,7 @@
 
 ghost use Rattle.std.specs.Prelude.{true, ◌≡◌, ◌+◌, ◌-◌, ◌*◌, ◌^◌, ◌<◌, ◌≤◌, IfOk, IfNone, map, option_map, count_by};
 ghost use Rattle.std.specs.List.{list_any, range_with_len};
-ghost use Rattle.heap_image.specs.HeapImage.{region_count, word_at, size_at, references_at, is_word_of, is_live_word, is_dead_word, last_end};
+ghost use Rattle.object_heap.specs.HeapImage.{region_count, word_at, size_at, references_at, is_word_of, is_live_word, is_dead_word, last_end};
 ghost use Rattle.summary.specs.NewAddresses.{prefix_end, next_after, next_at, new_address, new_live, new_top};
 ghost use Rattle.summary.specs.WordMoves.{origin};
 ghost use Rattle.summary.specs.Fillers.{gap_at, filler_word};

@@ -2,8 +2,8 @@
 
 ghost use Rattle.std.specs.Prelude.{◌≡◌, ◌+◌, ◌<◌, ◌≤◌, length, map, All, IfOk, IfErr, IsTrue, Contains, string_bytes};
 ghost use Rattle.raw_region.specs.Region.{with_words, part};
-ghost use Rattle.heap_image.specs.HeapImage.{IsValid, region_count, region_words, is_null_or_live};
-ghost use Rattle.heap_image.specs.declared.fault.Fault.TheVariants.{Memory};
+ghost use Rattle.object_heap.specs.HeapImage.{IsValid, region_count, region_words, is_null_or_live};
+ghost use Rattle.image_streams.specs.declared.fault.Fault.TheVariants.{Memory};
 ghost use Rattle.summary.specs.NewAddresses.{prefix_end, new_address, new_top};
 ghost use Rattle.summary.specs.Compaction.{redirected};
 ghost use Rattle.summary.specs.RegionData.{region_data, deferred, fill_count};
@@ -56,7 +56,7 @@ impl Drop for Plan {
 }
 
 impl Model for Plan {
-    ghost use Rattle.heap_image.specs.HeapImage.{HeapImage};
+    ghost use Rattle.object_heap.specs.HeapImage.{HeapImage};
     ghost use Rattle.summary.specs.Plan.{IsPlan};
 
     ghost Value = { HeapImage };

@@ -1,7 +1,7 @@
 //! `RegionTable`: the data of all regions.
 
 ghost use Rattle.std.specs.Prelude.{◌≡◌, ◌<◌, ◌≤◌, IfOk, length};
-ghost use Rattle.heap_image.specs.HeapImage.{IsValid, region_words, region_count};
+ghost use Rattle.object_heap.specs.HeapImage.{IsValid, region_words, region_count};
 ghost use Rattle.summary.specs.NewAddresses.{prefix_end, new_top};
 ghost use Rattle.summary.specs.Layout.{AreRegionCounts};
 ghost use Rattle.summary.specs.Plan.{AreRegions};
@@ -39,7 +39,7 @@ impl Drop for RegionTable {
 }
 
 impl Model for RegionTable {
-    ghost use Rattle.heap_image.specs.HeapImage.{HeapImage};
+    ghost use Rattle.object_heap.specs.HeapImage.{HeapImage};
     ghost use Rattle.summary.specs.Plan.{IsTable};
 
     ghost Value = { HeapImage };

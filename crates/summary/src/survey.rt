@@ -1,6 +1,6 @@
 //! `Survey`: the marks of an image and its plan.
 ghost use Rattle.std.specs.Prelude.{◌≡◌, IfOk, IfErr};
-ghost use Rattle.heap_image.specs.declared.fault.Fault.TheVariants.{Memory};
+ghost use Rattle.image_streams.specs.declared.fault.Fault.TheVariants.{Memory};
 
 use crate::plan::Plan;
 use heap_image::{Fault, Image};
@@ -26,7 +26,7 @@ impl Drop for Survey {
 
 impl Model for Survey {
     ghost use Rattle.std.specs.Prelude.{◌≡◌};
-    ghost use Rattle.heap_image.specs.HeapImage.{HeapImage};
+    ghost use Rattle.object_heap.specs.HeapImage.{HeapImage};
 
     ghost Value = { HeapImage };
 

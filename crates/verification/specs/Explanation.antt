@@ -1,6 +1,6 @@
 -- What is said of the words of a heap that differ from those of a compaction.
 use Rattle.std.specs.Prelude.{◌≡◌, ℕ, ◌+◌, ◌-◌, ◌<◌, ◌≤◌, ◌≢◌, Bool, if◌then◌else◌, List, All, Contains, Option, Some, None, MatchOption, length, map, min, slice_index}
-use Rattle.heap_image.specs.HeapImage.{HeapImage, heap_words, word_at, size_at, references_at}
+use Rattle.object_heap.specs.HeapImage.{HeapImage, heap_words, word_at, size_at, references_at}
 use Rattle.summary.specs.LiveObjects.{object_count, object_at}
 use Rattle.summary.specs.NewAddresses.{new_address, new_end_of, new_top}
 use Rattle.summary.specs.Compaction.{redirected, compact}

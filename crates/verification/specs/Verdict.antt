@@ -1,7 +1,7 @@
 -- The first difference between an image and the one that it should be.
 use Rattle.std.specs.Prelude.{◌≡◌, ℕ, length, slice_index}
 use Rattle.std.specs.Option.{is_some}
-use Rattle.heap_image.specs.HeapImage.{HeapImage, heap_words, word_at, roots_of}
+use Rattle.object_heap.specs.HeapImage.{HeapImage, heap_words, word_at, roots_of}
 use Rattle.summary.specs.LiveObjects.{object_count, object_at}
 use Rattle.verification.specs.Difference.{AreAlike, IsLeastDifference}
 use Rattle.verification.specs.declared.verdict.Verdict.{Verdict}

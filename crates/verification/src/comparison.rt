@@ -1,5 +1,5 @@
 ghost use Rattle.std.specs.Prelude.{◌≡◌, ◌≢◌, ◌+◌, ◌<◌, ◌≤◌, ◌↔◌, IsTrue, MatchBool, MatchOption, Contains};
-ghost use Rattle.heap_image.specs.HeapImage.{heap_words, word_at, size_at, references_at, is_null_or_live};
+ghost use Rattle.object_heap.specs.HeapImage.{heap_words, word_at, size_at, references_at, is_null_or_live};
 ghost use Rattle.summary.specs.LiveObjects.{object_count, object_at};
 ghost use Rattle.summary.specs.NewAddresses.{new_address, new_top};
 ghost use Rattle.summary.specs.Fillers.{IsDeadRun};

@@ -1,7 +1,7 @@
 //! Explains how the words of a heap differ from those of the compaction that it should be.
 ghost use Rattle.std.specs.Prelude.{◌≡◌, ◌+◌, ◌-◌, ◌<◌, ◌≤◌, All, Contains, IfOk, IfErr, OnOk, IfSome, IfNone, MatchOption, length, map, min, slice_index};
-ghost use Rattle.heap_image.specs.HeapImage.{heap_words, word_at, size_at, references_at, words_alone};
-ghost use Rattle.heap_image.specs.declared.fault.Fault.TheVariants.{Memory};
+ghost use Rattle.object_heap.specs.HeapImage.{heap_words, word_at, size_at, references_at, words_alone};
+ghost use Rattle.image_streams.specs.declared.fault.Fault.TheVariants.{Memory};
 ghost use Rattle.summary.specs.LiveObjects.{object_count, object_at};
 ghost use Rattle.summary.specs.NewAddresses.{new_address, new_top};
 ghost use Rattle.summary.specs.Fillers.{IsDeadRun};

@@ -1,6 +1,6 @@
 //! The first difference between words of images.
 ghost use Rattle.std.specs.Prelude.{◌≡◌, ◌+◌, ◌≤◌, MatchOption};
-ghost use Rattle.heap_image.specs.HeapImage.{heap_words, word_at};
+ghost use Rattle.object_heap.specs.HeapImage.{heap_words, word_at};
 ghost use Rattle.verification.specs.Difference.{AreAlike, IsLeastDifference};
 
 use heap_image::{Image, image_is_valid};

@@ -1,6 +1,6 @@
 -- Regions that wait for each other, and the longest chain of them.
 use Rattle.std.specs.Prelude.{◌≡◌, ⊤, ℕ, ◌+◌, ◌-◌, ◌*◌, ◌<◌, ◌≤◌, min, sum_by, Bool, not, ◌&&◌, ◌==◌, IsTrue, List, [], ◌∷◌, length, slice_index}
-use Rattle.heap_image.specs.HeapImage.{HeapImage, region_words, start_of}
+use Rattle.object_heap.specs.HeapImage.{HeapImage, region_words, start_of}
 use Rattle.summary.specs.NewAddresses.{new_top}
 use Rattle.summary.specs.WordMoves.{reads, is_to_fill}
 

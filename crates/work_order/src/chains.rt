@@ -1,6 +1,6 @@
 //! Computes the longest chains of regions that wait for each other.
 ghost use Rattle.std.specs.Prelude.{◌≡◌, ◌*◌, ◌<◌, ◌≤◌, IfOk, IfSome, MatchOption, length, slice_index_or};
-ghost use Rattle.heap_image.specs.HeapImage.{IsValid, region_count};
+ghost use Rattle.object_heap.specs.HeapImage.{IsValid, region_count};
 ghost use Rattle.summary.specs.RegionData.{data_words, fill_count, first_target, last_target};
 ghost use Rattle.work_order.specs.Chains.{AreLongest, IsLongestAfter, fill_words};
 

@@ -5,9 +5,9 @@ use Rattle.std.proofs.lemmas.List.{length-map}
 use Rattle.std.proofs.lemmas.List.FromFn.{length-map-range_with_len}
 use Rattle.std.specs.Prelude.{map, option_map}
 use Rattle.std.specs.Option.{is_some}
-use Rattle.heap_image.specs.HeapImage.{HeapImage, IsValid, heap_words, roots_or}
-use Rattle.heap_image.specs.Version.{has_roots}
-use Rattle.heap_image.specs.declared.version.Version.TheVariants.{One, Three}
+use Rattle.object_heap.specs.HeapImage.{HeapImage, IsValid, heap_words, roots_or}
+use Rattle.object_heap.specs.Version.{has_roots}
+use Rattle.object_heap.specs.declared.version.Version.TheVariants.{One, Three}
 use Rattle.heap_image.specs.ImageText.{with_tail}
 use Rattle.summary.specs.NewAddresses.{new_address}
 use Rattle.summary.specs.Compaction.{compact, compacted_word, redirected}

@@ -1,9 +1,11 @@
 -- What the bytes of a heap tell of its image.
 use Rattle.std.proofs.Common.{◌≡◌, ℕ, ◌*◌, ◌<◌, ◌^◌, List, length, sym, ◌∙◌, ap, arith, length-append}
 use Rattle.std.proofs.lemmas.Nat.{from_le_bytes-to_le_bytes_8}
-use Rattle.heap_image.specs.HeapImage.{HeapImage, IsValid, heap_words}
-use Rattle.heap_image.specs.declared.version.Version.{Version}
-use Rattle.heap_image.specs.ImageText.{numbers, text, with_tail, magic, version_of_magic, encoded_version, encoded_words}
+use Rattle.object_heap.specs.HeapImage.{HeapImage, IsValid, heap_words}
+use Rattle.object_heap.specs.declared.version.Version.{Version}
+use Rattle.heap_image.specs.ImageText.{text, with_tail, version_of_magic, encoded_version, encoded_words}
+use Rattle.object_heap.specs.Version.{magic}
+use Rattle.image_streams.specs.Numbers.{numbers}
 use Rattle.caller_heap.specs.declared.settings.HeapSettings.{HeapSettings}
 use Rattle.caller_heap.specs.HeapWords.{heap_bytes}
 

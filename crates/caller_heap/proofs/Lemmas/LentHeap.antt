@@ -4,12 +4,13 @@ use Rattle.std.proofs.lemmas.List.{drop_all, append-nil}
 use Rattle.std.proofs.lemmas.List.FromFn.{length-map-range_with_len}
 use Rattle.std.specs.Prelude.{All, IfErr, map, drop}
 use Rattle.std.specs.List.{concat}
-use Rattle.heap_image.specs.HeapImage.{HeapImage, image_of, block_of, region_count}
-use Rattle.heap_image.specs.ImageText.{from_tail, first_fault, listed_text, with_tail, numbers, front}
-use Rattle.heap_image.specs.declared.fault.Fault.{Fault}
-use Rattle.heap_image.specs.declared.fault.Fault.TheVariants.{Length, Memory, Workers}
-use Rattle.heap_image.specs.declared.version.Version.{Version}
-use Rattle.heap_image.specs.declared.version.Version.TheVariants.{One, Two, Three}
+use Rattle.object_heap.specs.HeapImage.{HeapImage, image_of, block_of, region_count}
+use Rattle.heap_image.specs.ImageText.{from_tail, first_fault, listed_text, with_tail, front}
+use Rattle.image_streams.specs.Numbers.{numbers}
+use Rattle.image_streams.specs.declared.fault.Fault.{Fault}
+use Rattle.image_streams.specs.declared.fault.Fault.TheVariants.{Length, Memory, Workers}
+use Rattle.object_heap.specs.declared.version.Version.{Version}
+use Rattle.object_heap.specs.declared.version.Version.TheVariants.{One, Two, Three}
 use Rattle.summary.specs.Compaction.{compact}
 use Rattle.caller_heap.specs.declared.settings.HeapSettings.{HeapSettings}
 use Rattle.heap_image.specs.declared.from_regions.RefusedRegions.{RefusedRegions}

@@ -3,7 +3,7 @@ use Rattle.std.proofs.Common.{◌≡◌, ℕ, ◌+◌, ◌*◌, ◌<◌, ◌≤�
 use Rattle.std.proofs.Math.Nat.{mul-le-mul_right}
 use Rattle.std.proofs.lemmas.List.{length-take-le}
 use Rattle.std.proofs.lemmas.Nat.{div-add-mod'}
-use Rattle.heap_image.specs.HeapImage.{HeapImage, IsValid, heap_words, region_count, region_words, start_of, block_of}
+use Rattle.object_heap.specs.HeapImage.{HeapImage, IsValid, heap_words, region_count, region_words, start_of, block_of}
 
 module _ (image : HeapImage) (valid : IsValid image) (r : ℕ) (below : r < region_count image) where
   pub region_fits : start_of image r + region_words image ≤ heap_words image

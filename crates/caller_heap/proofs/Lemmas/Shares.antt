@@ -2,8 +2,8 @@
 use Rattle.std.proofs.Common.{◌≡◌, ◌⊎◌, inl, List, [], ◌∷◌, ◌++◌, ◌∙◌, subst, Result, Ok, Err}
 use Rattle.std.specs.Prelude.{All, Option, Some, None, IfSome, IfOk, OnOk}
 use Rattle.std.proofs.lemmas.List.Elements.{All-pop}
-use Rattle.heap_image.specs.HeapImage.{HeapImage}
-use Rattle.heap_image.specs.declared.fault.Fault.TheVariants.{Memory, Workers}
+use Rattle.object_heap.specs.HeapImage.{HeapImage}
+use Rattle.image_streams.specs.declared.fault.Fault.TheVariants.{Memory, Workers}
 use Rattle.collector.specs.Collections.{IfKept}
 use Rattle.collector.specs.declared.outcome.Refusal.{Refusal}
 use Rattle.collector.specs.declared.outcome.Refusal.TheVariants.{Kept, Lost}

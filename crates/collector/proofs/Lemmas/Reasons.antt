@@ -1,7 +1,7 @@
 -- The faults of a collection from bytes to bytes.
 use Rattle.std.proofs.Common.{◌≡◌, ◌⊎◌, ◌∙◌, sym, ap, inl, inr}
-use Rattle.heap_image.specs.declared.fault.Fault.TheVariants.{Memory, Workers, Gate}
-use Rattle.heap_image.specs.HeapImage.{HeapImage}
+use Rattle.image_streams.specs.declared.fault.Fault.TheVariants.{Memory, Workers, Gate}
+use Rattle.object_heap.specs.HeapImage.{HeapImage}
 use Rattle.collector.specs.declared.outcome.Refusal.{Refusal}
 use Rattle.collector.specs.declared.outcome.Refusal.TheVariants.{Kept, Lost}
 use Rattle.collector.specs.Collections.{IfKept, fault_of}

@@ -2,12 +2,12 @@
 use Rattle.std.proofs.Common.{◌≡◌, ℕ, List, Option, length, sym, subst}
 use Rattle.std.proofs.Math.Seq.{take-length}
 use Rattle.std.specs.Io.KnownBytes.{Appends}
-use Rattle.heap_image.specs.HeapImage.{HeapImage}
+use Rattle.object_heap.specs.HeapImage.{HeapImage}
 use Rattle.heap_image.specs.ImageText.{text}
-use Rattle.heap_image.specs.Outgoing.{TakesBeginning}
+use Rattle.image_streams.specs.Outgoing.{TakesBeginning}
 use Rattle.heap_image.specs.Reading.{IsRead}
 use Rattle.heap_image.specs.Refusals.{IsOfReading}
-use Rattle.heap_image.specs.declared.fault.Fault.{Fault}
+use Rattle.image_streams.specs.declared.fault.Fault.{Fault}
 use Rattle.summary.specs.Compaction.{compact}
 use Rattle.collector.specs.Streams.{IsTextBegun, IsTextWritten}
 

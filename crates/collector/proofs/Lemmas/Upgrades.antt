@@ -3,7 +3,7 @@ use Rattle.std.proofs.Common.{◌≡◌, ℕ, ◌+◌, ◌-◌, eqb, List, refl,
 use Rattle.std.proofs.lemmas.Bool.{ne_eqb, cond-false}
 use Rattle.std.proofs.lemmas.Simd.{map-map}
 use Rattle.std.specs.Prelude.{map, option_map}
-use Rattle.heap_image.specs.HeapImage.{HeapImage, roots_or}
+use Rattle.object_heap.specs.HeapImage.{HeapImage, roots_or}
 use Rattle.heap_image.specs.Upgrade.{upgraded, upgraded_version}
 use Rattle.summary.specs.NewAddresses.{new_address, new_live}
 use Rattle.summary.specs.Compaction.{redirected, compact}

@@ -1,5 +1,5 @@
 ghost use Rattle.std.specs.Prelude.{◌≡◌, IfOk, IfErr, map, option_map};
-ghost use Rattle.heap_image.specs.HeapImage.{IsValid};
+ghost use Rattle.object_heap.specs.HeapImage.{IsValid};
 ghost use Rattle.summary.specs.Compaction.{redirected, compact};
 ghost use Rattle.fill.specs.FillFaults.{IsOverwritten};
 

@@ -1,8 +1,8 @@
 //! Who does the parts of a collection that can be split.
 ghost use Rattle.std.specs.Prelude.{◌≡◌, IfOk, IfErr, IsTrue, All, map};
 ghost use Rattle.std.specs.List.{concat};
-ghost use Rattle.heap_image.specs.HeapImage.{AreBlocks, is_null_or_live};
-ghost use Rattle.heap_image.specs.declared.fault.Fault.TheVariants.{Memory};
+ghost use Rattle.object_heap.specs.HeapImage.{AreBlocks, is_null_or_live};
+ghost use Rattle.image_streams.specs.declared.fault.Fault.TheVariants.{Memory};
 ghost use Rattle.summary.specs.NewAddresses.{new_address, new_top};
 ghost use Rattle.summary.specs.Compaction.{redirected, compact};
 ghost use Rattle.fill.specs.MovedHeap.{moved_regions, cleared};

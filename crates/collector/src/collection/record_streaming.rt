@@ -1,5 +1,5 @@
 ghost use Rattle.std.specs.Prelude.{◌≡◌, ◌≢◌, ◌⊎◌, IsTrue, IfOk, OnErr, IfErr, IfSome, MatchResult, Some, Err};
-ghost use Rattle.heap_image.specs.HeapImage.{HeapImage};
+ghost use Rattle.object_heap.specs.HeapImage.{HeapImage};
 ghost use Rattle.heap_image.specs.ImageText.{first_fault};
 ghost use Rattle.heap_image.specs.Reading.{IsRead};
 ghost use Rattle.heap_image.specs.Refusals.{IsOfReading};

@@ -1,5 +1,5 @@
 ghost use Rattle.std.specs.Prelude.{◌≡◌, ◌<◌, ◌↔◌, ◌⊎◌, All, vec_len, IfOk, IfErr, Err};
-ghost use Rattle.heap_image.specs.declared.fault.Fault.TheVariants.{Memory};
+ghost use Rattle.image_streams.specs.declared.fault.Fault.TheVariants.{Memory};
 ghost use Rattle.summary.specs.Compaction.{compact};
 ghost use Rattle.history.specs.Record.{IsRecord};
 ghost use Rattle.claim_board.specs.Recorders.{worker_count};

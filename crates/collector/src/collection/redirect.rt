@@ -1,6 +1,6 @@
 //! The redirection of references and live addresses once all regions have moved.
 ghost use Rattle.std.specs.Prelude.{◌≡◌, ◌<◌, IsTrue, All, Contains, map};
-ghost use Rattle.heap_image.specs.HeapImage.{is_null_or_live};
+ghost use Rattle.object_heap.specs.HeapImage.{is_null_or_live};
 ghost use Rattle.summary.specs.NewAddresses.{new_address};
 ghost use Rattle.summary.specs.Compaction.{redirected};
 

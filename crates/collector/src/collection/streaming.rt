@@ -1,6 +1,6 @@
 ghost use Rattle.std.specs.Prelude.{◌≡◌, ◌≢◌, ◌⊎◌, ℕ, IsTrue, IfOk, OnErr, IfErr, IfSome, MatchResult, Some, Err};
 ghost use Rattle.std.specs.Io.KnownBytes.{Appends};
-ghost use Rattle.heap_image.specs.HeapImage.{HeapImage};
+ghost use Rattle.object_heap.specs.HeapImage.{HeapImage};
 ghost use Rattle.heap_image.specs.ImageText.{text, first_fault};
 ghost use Rattle.summary.specs.Compaction.{compact};
 ghost use Rattle.collector.specs.Collections.{figures_of, fault_of, AreNoneOrTooMany};

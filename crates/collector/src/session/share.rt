@@ -1,6 +1,6 @@
 ghost use Rattle.std.specs.Prelude.{◌≡◌, ◌<◌, ◌⊎◌, true, length, vec_len, IfOk, IfErr, IfSome};
 ghost use Rattle.std.specs.Arc.{arc_value};
-ghost use Rattle.heap_image.specs.HeapImage.{region_count};
+ghost use Rattle.object_heap.specs.HeapImage.{region_count};
 ghost use Rattle.heap_image.specs.ImageText.{with_tail};
 ghost use Rattle.summary.specs.Compaction.{compact};
 ghost use Rattle.claim_board.specs.Boards.{identity, board_of};

@@ -5,7 +5,7 @@ use Rattle.std.specs.Io.KnownBytes.{Consumes, IsAtEnd, Keeps}
 use Rattle.std.proofs.lemmas.Bool.{and_right, cases_lt, le-ltb}
 use Rattle.std.proofs.lemmas.List.{ext_get_or}
 use Rattle.heap_image.specs.ImageText.{front}
-use Rattle.heap_image.specs.declared.version.Version.{Version}
+use Rattle.object_heap.specs.declared.version.Version.{Version}
 use Rattle.command_line.specs.declared.shape.Shape.{Shape}
 use Rattle.command_support.specs.Heads.{byte_at, byte_read, bytes_read}
 

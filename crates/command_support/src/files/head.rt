@@ -1,7 +1,7 @@
 //! The head of an image that is read with another region log or allowance than its own.
 ghost use Rattle.std.specs.Prelude.{◌≡◌, ◌++◌, ℕ, List, None, unwrap_or};
 ghost use Rattle.heap_image.specs.ImageText.{front};
-ghost use Rattle.heap_image.specs.declared.version.Version.{Version};
+ghost use Rattle.object_heap.specs.declared.version.Version.{Version};
 ghost use Rattle.command_line.specs.declared.shape.Shape.{Shape as Wanted};
 ghost use Rattle.command_support.specs.Heads.{byte_at, byte_read, bytes_read};
 

@@ -7,8 +7,7 @@ use Rattle.std.proofs.lemmas.List.{map-append, append-nil}
 use Rattle.std.proofs.lemmas.List.Elements.{filter-append}
 use Rattle.std.proofs.lemmas.Fn.{FoldsTo-push}
 use Rattle.fill.proofs.Lemmas.Lists.{range_with_len-add, filter-none, filter-first}
-use Rattle.heap_image.specs.HeapImage.{HeapImage, IsValid}
-use Rattle.heap_image.specs.HeapImage.{region_count as heap_regions}
+use Rattle.object_heap.specs.HeapImage.{HeapImage, IsValid, region_count as heap_regions}
 use Rattle.summary.specs.WordMoves.{reads as image_reads}
 use Rattle.summary.specs.PlanLaws.{PlanLaws}
 use Rattle.scheduler.specs.ImageMoves.{image_table}

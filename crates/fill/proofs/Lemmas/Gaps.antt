@@ -4,8 +4,8 @@ use Rattle.std.proofs.lemmas.Bool.{cases_lt, cond-true, cond-false, or_from, ne_
 use Rattle.std.proofs.lemmas.Nat.{mul-le, pow-add}
 use Rattle.std.proofs.lemmas.List.{get_or-replicate, length-replicate}
 use Rattle.std.specs.Prelude.{None}
-use Rattle.heap_image.specs.Header.{filler_header}
-use Rattle.heap_image.specs.HeapImage.{HeapImage, HasLiveList, word_at, is_live_word}
+use Rattle.object_heap.specs.Header.{filler_header}
+use Rattle.object_heap.specs.HeapImage.{HeapImage, HasLiveList, word_at, is_live_word}
 use Rattle.summary.specs.NewAddresses.{prefix_end}
 use Rattle.summary.specs.Fillers.{filler_limit, filler_word, gap_at, may_begin_filler}
 use Rattle.summary.specs.PlanLaws.{PlanLaws}

@@ -2,7 +2,7 @@
 use Rattle.std.proofs.Common.{◌≡◌, ℕ, suc, ◌+◌, ◌-◌, ◌*◌, ◌/◌, ◌%◌, ◌^◌, ◌≤◌, ◌<◌, ◌∙◌, ap, arith, bit_and}
 use Rattle.std.proofs.lemmas.Nat.{pow_pos, pow_below, and_mask, div-add-mod', mod_below, div-mul-add, le-div, mul-le}
 use Rattle.std.proofs.Math.Nat.{mod-eq_of_lt}
-use Rattle.heap_image.specs.HeapImage.{HeapImage, region_words}
+use Rattle.object_heap.specs.HeapImage.{HeapImage, region_words}
 
 pub region_is : (R r q : ℕ) → r * R ≤ q → q < r * R + R → q / R ≡ r
 region_is R r q l h =

@@ -3,7 +3,7 @@ use Rattle.std.proofs.Common.{◌≡◌, ℕ, zero, suc, ◌+◌, ◌-◌, ◌�
 use Rattle.std.proofs.lemmas.Bool.{cond-true, cond-false, lt-ltb, le-ltb, and_right}
 use Rattle.std.specs.Prelude.{Some, Option}
 use Rattle.std.specs.List.{list_any}
-use Rattle.heap_image.specs.HeapImage.{HeapImage, HasLiveList, heap_words, word_at, is_live_word, live_words}
+use Rattle.object_heap.specs.HeapImage.{HeapImage, HasLiveList, heap_words, word_at, is_live_word, live_words}
 use Rattle.summary.specs.NewAddresses.{prefix_end, new_top}
 use Rattle.summary.specs.WordMoves.{slid, origin}
 use Rattle.summary.specs.Compaction.{written, carried, is_reference_of, redirected}

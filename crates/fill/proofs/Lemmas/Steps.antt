@@ -5,11 +5,11 @@ use Rattle.std.proofs.lemmas.Bool.{cases_lt, true≢false, eqb-true, eq-eqb}
 use Rattle.std.proofs.lemmas.List.{get_or_default, get_or-map, length-map}
 use Rattle.std.proofs.lemmas.List.Folds.{list_any_at, Any-from_list_any}
 use Rattle.std.specs.Prelude.{MatchOption, Option, Some, None, map}
-use Rattle.heap_image.specs.Bits.{NoneBetween, IsFirstBetween}
+use Rattle.object_heap.specs.Bits.{NoneBetween, IsFirstBetween}
 use Rattle.mark_bitmap.specs.Marks.{is_begin}
 use Rattle.raw_region.specs.Region.{with_words, part}
-use Rattle.heap_image.specs.Header.{size_of}
-use Rattle.heap_image.specs.HeapImage.{HeapImage, HasLiveList, start_of, word_at, size_at, references_at, reference_at, is_null_or_live}
+use Rattle.object_heap.specs.Header.{size_of}
+use Rattle.object_heap.specs.HeapImage.{HeapImage, HasLiveList, start_of, word_at, size_at, references_at, reference_at, is_null_or_live}
 use Rattle.summary.specs.NewAddresses.{new_address, new_top}
 use Rattle.summary.specs.WordMoves.{slid}
 use Rattle.summary.specs.Compaction.{moved_word, redirected, is_deferred}

@@ -1,6 +1,6 @@
 -- Regions that are written, from one moment to the next.
 use Rattle.std.proofs.Common.{◌≡◌, ℕ, ◌+◌, List, length, refl, sym, ◌∙◌, ap, subst, ◌<◌}
-use Rattle.heap_image.specs.HeapImage.{HeapImage, IsValid, region_words, region_count, start_of, word_at}
+use Rattle.object_heap.specs.HeapImage.{HeapImage, IsValid, region_words, region_count, start_of, word_at}
 use Rattle.region_cells.specs.Views.{Writing}
 use Rattle.fill.specs.WordBlocks.{IsSplitAt}
 use Rattle.fill.specs.CopiedWords.{copied_word, written_to}

@@ -1,7 +1,7 @@
 -- How far a region is written once the live words below an address are copied.
 use Rattle.std.proofs.Common.{◌≡◌, ℕ, zero, suc, ◌+◌, ◌-◌, ◌*◌, ◌/◌, ◌≤◌, ◌<◌, inl, inr, true, false, ◌&&◌, List, length, refl, sym, ◌∙◌, ap, subst, arith, ltb, max, min}
 use Rattle.std.proofs.lemmas.Bool.{cases_lt, and_from, and_parts, lt-ltb, ltb-true, false≢true}
-use Rattle.heap_image.specs.HeapImage.{HeapImage, HasLiveList, IsValid, heap_words, region_words, start_of, region_count, word_at, is_live_word, block_of}
+use Rattle.object_heap.specs.HeapImage.{HeapImage, HasLiveList, IsValid, heap_words, region_words, start_of, region_count, word_at, is_live_word, block_of}
 use Rattle.summary.specs.NewAddresses.{prefix_end, new_top}
 use Rattle.summary.specs.WordMoves.{slid, reads}
 use Rattle.summary.specs.PlanLaws.{PlanLaws}

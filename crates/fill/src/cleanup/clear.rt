@@ -1,6 +1,6 @@
 ghost use Rattle.std.specs.Prelude.{◌≡◌, ℕ, length, min};
 ghost use Rattle.std.specs.List.{concat};
-ghost use Rattle.heap_image.specs.HeapImage.{AreBlocks};
+ghost use Rattle.object_heap.specs.HeapImage.{AreBlocks};
 ghost use Rattle.fill.specs.MovedHeap.{cleared};
 
 use raw_region::Region;

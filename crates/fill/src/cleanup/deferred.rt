@@ -1,7 +1,7 @@
 //! The update of deferred objects, those whose new words cross the end of the region in which they begin.
 ghost use Rattle.std.specs.Prelude.{◌≡◌, ℕ, ◌+◌, ◌*◌, ◌<◌, ◌≤◌, false, List, length, IsTrue, Some};
 ghost use Rattle.std.specs.List.{concat};
-ghost use Rattle.heap_image.specs.HeapImage.{FormHeap, AreBlocks, region_of, region_words, start_of, region_count, is_null_or_live};
+ghost use Rattle.object_heap.specs.HeapImage.{FormHeap, AreBlocks, region_of, region_words, start_of, region_count, is_null_or_live};
 ghost use Rattle.summary.specs.NewAddresses.{new_top};
 ghost use Rattle.summary.specs.RegionData.{deferred};
 ghost use Rattle.summary.specs.Compaction.{compact, moved_word};

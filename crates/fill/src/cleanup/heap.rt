@@ -1,6 +1,6 @@
 ghost use Rattle.std.specs.Prelude.{◌≡◌, ◌<◌, length, slice_index, slice_set};
 ghost use Rattle.std.specs.List.{concat};
-ghost use Rattle.heap_image.specs.HeapImage.{FormHeap};
+ghost use Rattle.object_heap.specs.HeapImage.{FormHeap};
 
 use heap_image::Heap;
 use raw_region::Region;

@@ -1,5 +1,5 @@
 ghost use Rattle.std.specs.Prelude.{◌≡◌, ℕ, ◌+◌, ◌<◌, ◌≤◌, false};
-ghost use Rattle.heap_image.specs.HeapImage.{region_count, start_of};
+ghost use Rattle.object_heap.specs.HeapImage.{region_count, start_of};
 ghost use Rattle.summary.specs.NewAddresses.{prefix_end};
 ghost use Rattle.summary.specs.WordMoves.{reads};
 ghost use Rattle.summary.specs.Compaction.{moved_word};

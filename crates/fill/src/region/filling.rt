@@ -1,5 +1,5 @@
 ghost use Rattle.std.specs.Prelude.{◌≡◌, ◌+◌, ◌-◌, ◌<◌, ◌≤◌, ◌^◌, [], IfOk, IfErr, OnOk};
-ghost use Rattle.heap_image.specs.HeapImage.{region_count};
+ghost use Rattle.object_heap.specs.HeapImage.{region_count};
 ghost use Rattle.summary.specs.NewAddresses.{prefix_end};
 ghost use Rattle.scheduler.specs.declared.event.Event.TheVariants.{Drain};
 ghost use Rattle.scheduler.specs.ImageMoves.{image_table};

@@ -1,5 +1,5 @@
 ghost use Rattle.std.specs.Prelude.{◌≡◌, ℕ, ◌+◌, ◌-◌, ◌<◌, ◌≤◌, ◌==◌, ◌||◌, true, false, IfSome, MatchOption, Some};
-ghost use Rattle.heap_image.specs.HeapImage.{IsValid, heap_words, region_words, region_count, start_of, is_live_word};
+ghost use Rattle.object_heap.specs.HeapImage.{IsValid, heap_words, region_words, region_count, start_of, is_live_word};
 ghost use Rattle.summary.specs.NewAddresses.{prefix_end, new_address, new_top};
 ghost use Rattle.summary.specs.Fillers.{filler_limit, may_begin_filler};
 ghost use Rattle.summary.specs.WordMoves.{slid};
@@ -30,7 +30,7 @@ pub(crate) struct Guide<'a> {
 
 impl<'a> Model for Guide<'a> {
     ghost use Rattle.std.specs.Prelude.{◌≡◌};
-    ghost use Rattle.heap_image.specs.HeapImage.{HeapImage};
+    ghost use Rattle.object_heap.specs.HeapImage.{HeapImage};
 
     ghost Value = { HeapImage };
 

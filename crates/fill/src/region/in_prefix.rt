@@ -1,5 +1,5 @@
 ghost use Rattle.std.specs.Prelude.{◌≡◌, ℕ, ◌<◌, ◌≤◌, false};
-ghost use Rattle.heap_image.specs.HeapImage.{start_of, word_at, is_live_word};
+ghost use Rattle.object_heap.specs.HeapImage.{start_of, word_at, is_live_word};
 ghost use Rattle.summary.specs.NewAddresses.{prefix_end};
 ghost use Rattle.summary.specs.Compaction.{moved_word};
 ghost use Rattle.fill.specs.WordBlocks.{IsSplitAt, Shows};

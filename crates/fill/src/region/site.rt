@@ -1,5 +1,5 @@
 ghost use Rattle.std.specs.Prelude.{◌≡◌, ℕ, ◌+◌, ◌<◌, ◌≤◌};
-ghost use Rattle.heap_image.specs.HeapImage.{heap_words, region_words, region_count, start_of, size_at};
+ghost use Rattle.object_heap.specs.HeapImage.{heap_words, region_words, region_count, start_of, size_at};
 ghost use Rattle.summary.specs.NewAddresses.{prefix_end, new_top};
 ghost use Rattle.summary.specs.RegionData.{fill_count};
 ghost use Rattle.summary.specs.Compaction.{moved_word};

@@ -1,6 +1,6 @@
 -- What `import` prints of an image.
 use Rattle.std.proofs.Common.{◌≡◌, ℕ, List, [], ◌++◌, Option, Some, None, append-nil, refl, sym, ◌∙◌, ap}
-use Rattle.heap_image.specs.HeapImage.{HeapImage}
+use Rattle.object_heap.specs.HeapImage.{HeapImage}
 use Rattle.heap_commands.specs.Histogram.{IsHistogram}
 use Rattle.heap_commands.specs.Import.{IsImportText, IsLineOf, IsTextOf}
 

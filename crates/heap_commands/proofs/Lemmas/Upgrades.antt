@@ -1,10 +1,10 @@
 -- The version of an upgraded image.
 use Rattle.std.proofs.Common.{◌≡◌, ◌≤◌, refl, arith}
-use Rattle.heap_image.specs.HeapImage.{HeapImage}
+use Rattle.object_heap.specs.HeapImage.{HeapImage}
 use Rattle.heap_image.specs.Upgrade.{upgraded_to, upgraded_version}
-use Rattle.heap_image.specs.Version.{number_of}
-use Rattle.heap_image.specs.declared.version.Version.{Version}
-use Rattle.heap_image.specs.declared.version.Version.TheVariants.{One, Two, Three}
+use Rattle.object_heap.specs.Version.{number_of}
+use Rattle.object_heap.specs.declared.version.Version.{Version}
+use Rattle.object_heap.specs.declared.version.Version.TheVariants.{One, Two, Three}
 
 one_or_later : (version : Version) → number_of version ≤ 1 → version ≡ One
 one_or_later One few = refl

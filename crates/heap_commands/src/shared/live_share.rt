@@ -1,6 +1,6 @@
 //! How much of an image is live.
 ghost use Rattle.std.specs.Prelude.{◌≡◌, ℕ, List, sum_by};
-ghost use Rattle.heap_image.specs.HeapImage.{heap_words, size_at};
+ghost use Rattle.object_heap.specs.HeapImage.{heap_words, size_at};
 ghost use Rattle.heap_dump.specs.Totals.{held};
 
 use command_times::LiveShare;

@@ -5,7 +5,7 @@ use Rattle.std.proofs.lemmas.Bool.{cases_lt}
 use Rattle.std.proofs.lemmas.List.{append-nil, get_or_append_left, get_or_push, length-append, map-append, take_more}
 use Rattle.std.proofs.lemmas.List.Elements.{All-push, filter-append}
 use Rattle.std.proofs.lemmas.List.Quantifiers.{all_pairs_push}
-use Rattle.heap_image.specs.HeapImage.{HeapImage, size_at, word_at}
+use Rattle.object_heap.specs.HeapImage.{HeapImage, size_at, word_at}
 use Rattle.heap_dump.specs.declared.listing.ListedObject.{ListedObject}
 use Rattle.heap_dump.specs.Listing.{AreObjectsBefore, IsNextLive, IsOutside, end_of_listed, live_addresses}
 

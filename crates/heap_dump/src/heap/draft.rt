@@ -1,8 +1,8 @@
 //! The heap of an image before its live objects are marked.
 ghost use Rattle.std.specs.Prelude.{◌≡◌, true, IfOk, ◌≢◌};
 ghost use Rattle.std.specs.List.Sorted.{IsStrictlyIncreasing};
-ghost use Rattle.heap_image.specs.HeapImage.{IsValid, heap_words, roots_of};
-ghost use Rattle.heap_image.specs.Version.{IsChosen, has_roots};
+ghost use Rattle.object_heap.specs.HeapImage.{IsValid, heap_words, roots_of};
+ghost use Rattle.object_heap.specs.Version.{IsChosen, has_roots};
 ghost use Rattle.heap_dump.specs.ImportFigures.{AreFiguresOf};
 
 use super::roots::roots_to;

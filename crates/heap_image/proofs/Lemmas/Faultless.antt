@@ -9,14 +9,15 @@ use Rattle.std.specs.Option.{option_or}
 use Rattle.std.proofs.lemmas.List.{append-nil}
 use Rattle.std.proofs.lemmas.List.Folds.{find-append}
 use Rattle.heap_image.specs.Reading.{HasFittingNumbers}
-use Rattle.heap_image.specs.declared.fault.Fault.TheVariants.{TruncatedHeader, RegionLog, Length, TruncatedBody, LiveOrder, Header, Overlap, Reference, Trailing, Magic, Root}
-use Rattle.heap_image.specs.HeapImage.{HeapImage, IsValid, HasLiveList, heap_words, end_of, size_at, references_at, kind_at, reference_at, is_null_or_live, AreRoots, roots_or}
-use Rattle.heap_image.specs.Version.{max_region_log, max_regions, max_words}
-use Rattle.heap_image.specs.declared.version.Version.{Version}
-use Rattle.heap_image.specs.ImageText.{front, numbers, text, listed_text, with_tail, from_tail, magic, encoded_version, misplaced_root, encoded_image, front_faults, layout_faults, live_list_faults, encoded_words, encoded_count, encoded_region_log, encoded_length, encoded_region_words, first_fault, first_some, fault_if, is_misplaced, misplaced_index, unsound_header, overlapping, dangling, object_faults, first_object_fault}
-use Rattle.heap_image.specs.declared.fault.Fault.{Fault}
-use Rattle.heap_image.proofs.Lemmas.Spans.{Apart}
-use Rattle.heap_image.proofs.Lemmas.LiveWords.{live_apart, live_end-le}
+use Rattle.image_streams.specs.declared.fault.Fault.TheVariants.{TruncatedHeader, RegionLog, Length, TruncatedBody, LiveOrder, Header, Overlap, Reference, Trailing, Magic, Root}
+use Rattle.object_heap.specs.HeapImage.{HeapImage, IsValid, HasLiveList, heap_words, end_of, size_at, references_at, kind_at, reference_at, is_null_or_live, AreRoots, roots_or}
+use Rattle.object_heap.specs.Version.{max_region_log, max_regions, max_words, magic}
+use Rattle.object_heap.specs.declared.version.Version.{Version}
+use Rattle.heap_image.specs.ImageText.{front, text, listed_text, with_tail, from_tail, encoded_version, encoded_image, front_faults, layout_faults, live_list_faults, encoded_words, encoded_count, encoded_region_log, encoded_length, encoded_region_words, first_fault, first_some, fault_if, object_faults, first_object_fault}
+use Rattle.object_heap.specs.ObjectFaults.{misplaced_root, is_misplaced, misplaced_index, unsound_header, overlapping, dangling}
+use Rattle.image_streams.specs.Numbers.{numbers}
+use Rattle.image_streams.specs.declared.fault.Fault.{Fault}
+use Rattle.heap_image.proofs.Lemmas.LiveWords.{Apart, live_apart, live_end-le}
 use Rattle.heap_image.proofs.Lemmas.TextLaws.{valid_numbers, encoded_image-append, from_tail-with_tail, length_told, fronted, front_fits, front_log, front_live, front_words, front_length}
 use Rattle.heap_image.proofs.Lemmas.Versions.{FitsFront, known_magic, magic_names}
 

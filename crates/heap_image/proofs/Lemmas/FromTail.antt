@@ -7,15 +7,16 @@ use Rattle.std.specs.Prelude.{All, IfSome, find}
 use Rattle.std.specs.Option.{is_some}
 use Rattle.std.specs.List.{range_with_len}
 use Rattle.heap_image.specs.Reading.{HasFittingNumbers}
-use Rattle.heap_image.specs.declared.fault.Fault.TheVariants.{Root}
-use Rattle.heap_image.specs.HeapImage.{HeapImage, IsValid, AreRoots, heap_words, with_live, reachable, roots_or}
-use Rattle.heap_image.specs.ImageText.{text, listed_text, with_tail, from_tail, live_list_faults, first_some, misplaced_root}
-use Rattle.heap_image.specs.Version.{Allows, has_roots}
-use Rattle.heap_image.specs.declared.version.Version.{Version}
-use Rattle.heap_image.specs.declared.version.Version.TheVariants.{One, Two, Three}
+use Rattle.image_streams.specs.declared.fault.Fault.TheVariants.{Root}
+use Rattle.object_heap.specs.HeapImage.{HeapImage, IsValid, AreRoots, heap_words, with_live, reachable, roots_or}
+use Rattle.heap_image.specs.ImageText.{text, listed_text, with_tail, from_tail, live_list_faults, first_some}
+use Rattle.object_heap.specs.ObjectFaults.{misplaced_root}
+use Rattle.object_heap.specs.Version.{Allows, has_roots}
+use Rattle.object_heap.specs.declared.version.Version.{Version}
+use Rattle.object_heap.specs.declared.version.Version.TheVariants.{One, Two, Three}
 use Rattle.heap_image.proofs.Lemmas.TextLaws.{reachable-words}
 use Rattle.heap_image.proofs.Lemmas.Faultless.{AllNone}
-use Rattle.heap_image.proofs.Lemmas.LiveListFaults.{AllNone-from_first_some, map_None, find_None-at, sound_live_list}
+use Rattle.heap_image.proofs.Lemmas.LiveListFaults.{AllNone-from_first_some, map_None, find_None-at, IsFaultlessList, sound_live_list}
 use Rattle.heap_image.proofs.Lemmas.Reaches.{reachable-short}
 
 -- its text has these numbers again
@@ -38,8 +39,8 @@ module _ (version : Version) (some : has_roots version ≡ true) (image : HeapIm
   abbrev rooted : HeapImage
   rooted = record image { version = version; live = reachable image image.live; roots = Some image.live }
 
-  rooted-IsValid : first_some (live_list_faults rooted) ≡ None → IsValid rooted
-  rooted-IsValid none =
+  rooted-IsValid : IsFaultlessList → first_some (live_list_faults rooted) ≡ None → IsValid rooted
+  rooted-IsValid faultless none =
       let all : AllNone (live_list_faults rooted) = AllNone-from_first_some (live_list_faults rooted) none in
       record {
         limits = record {
@@ -54,7 +55,7 @@ module _ (version : Version) (some : has_roots version ≡ true) (image : HeapIm
         allowed = record { region_log_high = fits.allowed.region_log_high; few_words = fits.allowed.few_words; few_regions = fits.allowed.few_regions };
         allowance_fits = fits.allowance;
         words_fit = fits.words;
-        live_list = sound_live_list rooted none;
+        live_list = sound_live_list faultless rooted none;
         versioned = sym some;
         rooted = record {
           few = fits.limits.few_live;
@@ -65,18 +66,18 @@ module _ (version : Version) (some : has_roots version ≡ true) (image : HeapIm
       }
 
 -- with nothing wrong it is valid
-pub from_tail-IsValid : (version : Version) (image : HeapImage) → HasFittingNumbers version image → first_some (live_list_faults (from_tail version image)) ≡ None → IsValid (from_tail version image)
-from_tail-IsValid One image fits none = record {
+pub from_tail-IsValid : IsFaultlessList → (version : Version) (image : HeapImage) → HasFittingNumbers version image → first_some (live_list_faults (from_tail version image)) ≡ None → IsValid (from_tail version image)
+from_tail-IsValid faultless One image fits none = record {
   limits = fits.limits;
   allowed = subst (λ v. Allows v image.region_log (heap_words image)) (sym fits.listed) fits.allowed;
   allowance_fits = fits.allowance;
   words_fit = fits.words;
-  live_list = sound_live_list image none;
+  live_list = sound_live_list faultless image none;
   versioned = ap is_some fits.plain ∙ sym (ap has_roots fits.listed);
   rooted = subst (λ o. IfSome o (AreRoots image)) (sym fits.plain) tt;
 }
-from_tail-IsValid Two image fits none = rooted-IsValid Two refl image fits none
-from_tail-IsValid Three image fits none = rooted-IsValid Three refl image fits none
+from_tail-IsValid faultless Two image fits none = rooted-IsValid Two refl image fits faultless none
+from_tail-IsValid faultless Three image fits none = rooted-IsValid Three refl image fits faultless none
 
 -- what is reached from the roots is the live list
 pub rooted_live : (version : Version) (heap : HeapImage) (tail live : List ℕ) → has_roots version ≡ true → live ≡ reachable heap tail → live ≡ (from_tail version (with_live heap tail)).live

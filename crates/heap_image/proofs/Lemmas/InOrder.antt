@@ -3,11 +3,10 @@ use Rattle.std.proofs.Common.{◌≡◌, ℕ, zero, suc, ◌+◌, ◌-◌, ◌�
 use Rattle.std.proofs.lemmas.Bool.{lt-leb, or_from, and_right}
 use Rattle.std.specs.Prelude.{filter}
 use Rattle.std.specs.List.{range_with_len}
-use Rattle.heap_image.specs.HeapImage.{HeapImage, heap_words, reachable}
-use Rattle.heap_image.specs.ImageText.{is_misplaced, misplaced_index}
-use Rattle.heap_image.specs.Reachable.{is_listed}
+use Rattle.object_heap.specs.HeapImage.{HeapImage, heap_words, reachable}
+use Rattle.object_heap.specs.ObjectFaults.{is_misplaced, misplaced_index}
 use Rattle.heap_image.proofs.Lemmas.Finds.{find_none_in_range}
-use Rattle.heap_image.proofs.Lemmas.Reaches.{reachable-ascending}
+use Rattle.heap_image.proofs.Lemmas.Reaches.{reachable_is}
 
 filter_from : (t : ℕ → Bool) (from n i : ℕ) → i < length (filter t (range_with_len from n)) → from ≤ get_or (filter t (range_with_len from n)) i 0
 filter_from t from zero i l = let no : ⊥ = omega arith in absurd no
@@ -18,7 +17,7 @@ filter_from t from (suc n) i l = step (t from) (filter t (range_with_len (from +
     step true xs (suc i) h l = let m = h i (omega arith) in omega arith
     step false xs i h l = let m = h i l in omega arith
 
-filter_below : (t : ℕ → Bool) (from n i : ℕ) → i < length (filter t (range_with_len from n)) → get_or (filter t (range_with_len from n)) i 0 < from + n
+pub filter_below : (t : ℕ → Bool) (from n i : ℕ) → i < length (filter t (range_with_len from n)) → get_or (filter t (range_with_len from n)) i 0 < from + n
 filter_below t from zero i l = let no : ⊥ = omega arith in absurd no
 filter_below t from (suc n) i l = step (t from) (filter t (range_with_len (from + 1) n)) i (λ k m. filter_below t (from + 1) n k m) l
   where
@@ -55,4 +54,4 @@ in_order t n = find_none_in_range (is_misplaced n (filter t (range_with_len 0 n)
 
 -- so is what is reached
 pub reachable-in_order : (image : HeapImage) (roots : List ℕ) → misplaced_index (heap_words image) (reachable image roots) ≡ None
-reachable-in_order image roots = ap (misplaced_index (heap_words image)) (reachable-ascending image roots) ∙ in_order (is_listed (reachable image roots)) (heap_words image)
+reachable-in_order image roots = let is = reachable_is image roots in ap (misplaced_index (heap_words image)) is.1 ∙ in_order is.0 (heap_words image)

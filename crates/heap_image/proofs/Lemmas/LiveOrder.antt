@@ -2,7 +2,7 @@
 use Rattle.std.proofs.Common.{◌≡◌, ℕ, zero, suc, ◌+◌, ◌-◌, ◌≤◌, ◌<◌, Bool, true, false, ◌&&◌, List, length, get_or, refl, sym, ◌∙◌, ap, arith, leb, ltb, None, All}
 use Rattle.std.proofs.lemmas.Bool.{le-leb, lt-leb, lt-ltb, or_from, or_left, or_right, or_parts, and_from, and_right, leb-false}
 use Rattle.std.proofs.lemmas.List.Elements.{All-from_get_or}
-use Rattle.heap_image.specs.ImageText.{is_misplaced, misplaced_index}
+use Rattle.object_heap.specs.ObjectFaults.{is_misplaced, misplaced_index}
 use Rattle.std.specs.List.{range_with_len}
 use Rattle.std.proofs.lemmas.List.FromFn.{get_or-range_with_len, length-range_with_len}
 use Rattle.heap_image.proofs.Lemmas.LiveListFaults.{find_None-at}

@@ -1,10 +1,14 @@
 -- The live list of a sound image is a list of spans that do not overlap.
-use Rattle.std.proofs.Common.{◌≡◌, ℕ, suc, ◌+◌, ◌-◌, ◌≤◌, ◌<◌, List, [], ◌∷◌, length, get_or, ◌∙◌, ap, subst, arith, add-one}
+use Rattle.std.proofs.Common.{◌≡◌, ℕ, suc, ◌+◌, ◌≤◌, ◌<◌, List, [], ◌∷◌, length, get_or, subst, arith, add-one}
 use Rattle.std.specs.List.{AllAdjacentBelow}
-use Rattle.heap_image.specs.HeapImage.{HeapImage, HasLiveList, size_at, end_of, heap_words, live_words}
-use Rattle.heap_image.proofs.Lemmas.Spans.{Apart, held, count_by-in_any}
+use Rattle.object_heap.specs.HeapImage.{HeapImage, HasLiveList, size_at, end_of, heap_words}
 
-pub Apart-from_adjacent : (size : ℕ → ℕ) (low : ℕ) (places : List ℕ) → (0 < length places → low ≤ get_or places 0 0) → AllAdjacentBelow (λ a b. a + size a ≤ b) places (length places) → Apart size low places
+-- a list of places whose spans follow one another from low on
+abbrev pub Apart : (ℕ → ℕ) → ℕ → List ℕ → Type 0
+Apart size low [] = Unit {0}
+Apart size low (a ∷ others) = (low ≤ a) × Apart size (a + size a) others
+
+Apart-from_adjacent : (size : ℕ → ℕ) (low : ℕ) (places : List ℕ) → (0 < length places → low ≤ get_or places 0 0) → AllAdjacentBelow (λ a b. a + size a ≤ b) places (length places) → Apart size low places
 Apart-from_adjacent size low [] first h = tt
 Apart-from_adjacent size low (a ∷ others) first h =
     (first (omega arith), Apart-from_adjacent size (a + size a) others (next others h) (λ k d l. tail k d l))
@@ -19,11 +23,6 @@ Apart-from_adjacent size low (a ∷ others) first h =
 module _ (image : HeapImage) (sound : HasLiveList image) where
   pub live_apart : Apart (size_at image) 0 image.live
   live_apart = Apart-from_adjacent (size_at image) 0 image.live (λ _. omega arith) sound.apart
-
-  pub live_words-held : (from to : ℕ) → from ≤ to → live_words image from to ≡ held (size_at image) image.live from to
-  live_words-held from to h =
-      let e : from + (to - from) ≡ to = omega arith in
-      count_by-in_any (size_at image) 0 image.live live_apart from (to - from) ∙ ap (held (size_at image) image.live from) e
 
   pub live_end-le : (i : ℕ) → i < length image.live → end_of image (get_or image.live i 0) ≤ heap_words image
   live_end-le i h = (sound.sound i 0 h).inside

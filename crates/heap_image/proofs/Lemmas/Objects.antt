@@ -4,10 +4,11 @@ use Rattle.std.proofs.lemmas.List.{take_more}
 use Rattle.std.specs.Prelude.{find, option_map}
 use Rattle.std.specs.Bool.{then_some}
 use Rattle.std.specs.Option.{option_or}
-use Rattle.heap_image.specs.Header.{size_of, references_of, kind_of}
-use Rattle.heap_image.specs.HeapImage.{HeapImage, heap_words, with_live, size_at, is_unsound}
-use Rattle.heap_image.specs.ImageText.{unsound_header, overlapping, dangling, first_some}
-use Rattle.heap_image.specs.declared.fault.Fault.TheVariants.{Header, Overlap, Reference}
+use Rattle.object_heap.specs.Header.{size_of, references_of, kind_of}
+use Rattle.object_heap.specs.HeapImage.{HeapImage, heap_words, with_live, size_at, is_unsound}
+use Rattle.object_heap.specs.ObjectFaults.{unsound_header, overlapping, dangling}
+use Rattle.heap_image.specs.ImageText.{first_some}
+use Rattle.image_streams.specs.declared.fault.Fault.TheVariants.{Header, Overlap, Reference}
 use Rattle.heap_image.proofs.Lemmas.Finds.{find_first}
 use Rattle.heap_image.proofs.Lemmas.Overlaps.{last_end_of, overlap_of, one_if, overlap_more, last_end_more}
 

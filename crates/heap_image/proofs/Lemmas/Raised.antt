@@ -4,7 +4,7 @@ use Rattle.std.proofs.lemmas.Bool.{cases_lt}
 use Rattle.std.proofs.lemmas.List.{drop_all}
 use Rattle.std.proofs.lemmas.Nat.Bits.{bit_at_or, bit_at-lt, bit_at-suc, bit_at-zero, bit_at_above, bit_at_lowest, bit_at_cat_low}
 use Rattle.std.specs.Int.{bit_at}
-use Rattle.heap_image.specs.Bits.{has}
+use Rattle.object_heap.specs.Bits.{has}
 
 -- a word whose bits are raised by one place, with another lowest bit
 abbrev pub raised_word : ℕ → ℕ → ℕ

@@ -13,15 +13,16 @@ use Rattle.std.specs.Str.{bytes_eq}
 use Rattle.std.specs.List.{range_with_len}
 use Rattle.std.specs.Int.{w32, w64, to_le_bytes}
 use Rattle.heap_image.specs.Reading.{HasFittingNumbers}
-use Rattle.heap_image.specs.HeapImage.{HeapImage, IsValid}
-use Rattle.heap_image.specs.ImageText.{numbers, front, text, encoded_version, live_list_faults, first_some, encoded_image, encoded_numbers, encoded_words, encoded_count, encoded_region_log, encoded_length, encoded_region_words, u32_at, u64_at, faults, first_fault, magic}
-use Rattle.heap_image.specs.declared.fault.Fault.TheVariants.{TruncatedHeader, Magic, RegionLog, Length, TruncatedBody, Trailing}
-use Rattle.heap_image.specs.Version.{max_region_log, max_regions, max_words}
-use Rattle.heap_image.specs.declared.version.Version.{Version}
+use Rattle.object_heap.specs.HeapImage.{HeapImage, IsValid}
+use Rattle.heap_image.specs.ImageText.{front, text, encoded_version, live_list_faults, first_some, encoded_image, encoded_numbers, encoded_words, encoded_count, encoded_region_log, encoded_length, encoded_region_words, faults, first_fault}
+use Rattle.object_heap.specs.Version.{magic, max_region_log, max_regions, max_words}
+use Rattle.image_streams.specs.Numbers.{numbers, u32_at, u64_at}
+use Rattle.image_streams.specs.declared.fault.Fault.TheVariants.{TruncatedHeader, Magic, RegionLog, Length, TruncatedBody, Trailing}
+use Rattle.object_heap.specs.declared.version.Version.{Version}
 use Rattle.heap_image.proofs.Lemmas.Versions.{log_few, regions_few, words_few}
 use Rattle.heap_image.proofs.Lemmas.Faultless.{AllNone, first_some-None}
 use Rattle.heap_image.proofs.Lemmas.FromTail.{text-from_tail, from_tail-IsValid}
-use Rattle.heap_image.proofs.Lemmas.LiveListFaults.{AllNone-from_first_some, no_fault}
+use Rattle.heap_image.proofs.Lemmas.LiveListFaults.{AllNone-from_first_some, IsFaultlessList, no_fault}
 
 -- the magic that is known
 known : (bytes : List ℕ) → not (bytes_eq (take 8 bytes) (magic (encoded_version bytes))) ≡ false → take 8 bytes ≡ magic (encoded_version bytes)
@@ -194,8 +195,8 @@ module _ (bytes : List ℕ) (fit : All (λ b. b < 256) bytes) where
           listed = refl;
         }
 
-    pub told-IsValid : IsValid (encoded_image bytes)
-    told-IsValid = from_tail-IsValid version image numbers_fit nothing_wrong
+    pub told-IsValid : IsFaultlessList → IsValid (encoded_image bytes)
+    told-IsValid faultless = from_tail-IsValid faultless version image numbers_fit nothing_wrong
 
 -- 32 bytes that begin with the magic are the front that they tell
 pub front_of_bytes : (version : Version) (bytes : List ℕ) → ((i : ℕ) → get_or bytes i 0 < 256) → length bytes ≡ 32 → take 8 bytes ≡ magic version → (log count words allowance : ℕ)

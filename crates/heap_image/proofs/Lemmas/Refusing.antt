@@ -7,14 +7,16 @@ use Rattle.std.specs.Str.{bytes_eq}
 use Rattle.std.specs.Int.{w32, w64, from_le_bytes}
 use Rattle.std.specs.Io.KnownBytes.{Consumes, IsAtEnd}
 use Rattle.heap_image.specs.Reading.{HasFittingNumbers}
-use Rattle.heap_image.specs.declared.fault.Fault.{Fault}
-use Rattle.heap_image.specs.declared.fault.Fault.TheVariants.{TruncatedHeader, Magic, RegionLog, Length, TruncatedBody, LiveOrder, Header, Overlap, Reference, Trailing, Memory, Io, Workers, Schedule, Overwritten, Gate, Root}
-use Rattle.heap_image.specs.ImageText.{magic, version_of_magic, fault_if, first_some, first_fault, front_faults, front, numbers, listed_text, from_tail, misplaced_root, encoded_length, live_list_faults, misplaced_index, unsound_header, overlapping, dangling, first_object_fault}
-use Rattle.heap_image.specs.HeapImage.{HeapImage, IsWithinLimits, heap_words, image_of, versioned_image_of, with_live, reachable, roots_or}
-use Rattle.heap_image.specs.Version.{Allows, max_region_log, max_regions, max_words}
-use Rattle.heap_image.specs.declared.version.Version.{Version}
-use Rattle.heap_image.specs.declared.version.Version.TheVariants.{One, Two, Three}
-use Rattle.heap_image.specs.Device.{is_io}
+use Rattle.image_streams.specs.declared.fault.Fault.{Fault}
+use Rattle.image_streams.specs.declared.fault.Fault.TheVariants.{TruncatedHeader, Magic, RegionLog, Length, TruncatedBody, LiveOrder, Header, Overlap, Reference, Trailing, Memory, Io, Workers, Schedule, Overwritten, Gate, Root}
+use Rattle.object_heap.specs.Version.{magic, Allows, max_region_log, max_regions, max_words}
+use Rattle.heap_image.specs.ImageText.{version_of_magic, fault_if, first_some, first_fault, front_faults, front, listed_text, from_tail, encoded_length, live_list_faults, first_object_fault}
+use Rattle.object_heap.specs.ObjectFaults.{misplaced_root, misplaced_index, unsound_header, overlapping, dangling}
+use Rattle.image_streams.specs.Numbers.{numbers}
+use Rattle.object_heap.specs.HeapImage.{HeapImage, IsWithinLimits, heap_words, image_of, versioned_image_of, with_live, reachable, roots_or}
+use Rattle.object_heap.specs.declared.version.Version.{Version}
+use Rattle.object_heap.specs.declared.version.Version.TheVariants.{One, Two, Three}
+use Rattle.image_streams.specs.Device.{is_io}
 use Rattle.heap_image.proofs.Lemmas.Known.{consumes_more}
 use Rattle.std.specs.List.{concat}
 use Rattle.heap_image.proofs.Lemmas.Faultless.{first_some-append, first_some_past, front_faults-None, first_fault-truncated, first_fault-append}

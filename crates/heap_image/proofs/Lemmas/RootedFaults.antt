@@ -4,15 +4,16 @@ use Rattle.std.proofs.lemmas.Bool.{cases_lt, cases_eq, eq-eqb, ne_eqb, le-ltb, l
 use Rattle.std.proofs.lemmas.List.Folds.{list_any_none, list_any_at, Any-from_list_any, find-append}
 use Rattle.std.proofs.lemmas.List.Elements.{All-from_get_or}
 use Rattle.std.proofs.lemmas.List.FromFn.{length-range_with_len, get_or-range_with_len}
-use Rattle.std.specs.Prelude.{find, flat_map, map}
+use Rattle.std.specs.Prelude.{filter, find, flat_map, map}
 use Rattle.std.specs.Option.{option_or}
 use Rattle.std.specs.List.{list_any, range_with_len}
-use Rattle.heap_image.specs.HeapImage.{HeapImage, heap_words, references_at, reference_at, is_unsound, leads_to, refers_to, reachable}
-use Rattle.heap_image.specs.ImageText.{unsound_header, dangling, is_dangling}
-use Rattle.heap_image.specs.Reachable.{is_listed, is_beyond, beyond}
+use Rattle.object_heap.specs.HeapImage.{HeapImage, heap_words, references_at, reference_at, is_unsound, leads_to, refers_to, reachable}
+use Rattle.object_heap.specs.ObjectFaults.{unsound_header, dangling, is_dangling, is_beyond, beyond}
+use Rattle.object_heap.specs.Reachable.{is_listed, IsClosed}
 use Rattle.heap_image.proofs.Lemmas.LiveListFaults.{find_None-at}
-use Rattle.heap_image.proofs.Lemmas.Reaches.{reachable-IsClosed, reachable-below}
+use Rattle.heap_image.proofs.Lemmas.InOrder.{filter_below}
 use Rattle.heap_image.proofs.Lemmas.Listed.{any_listed}
+use Rattle.heap_image.proofs.Lemmas.Reaches.{reachable_is}
 
 piece_same : (t u : ℕ × ℕ → Bool) (x from n : ℕ) → ((f : ℕ) → f < from + n → t (x, f) ≡ u (x, f)) → find t (map (λ f. (x, f)) (range_with_len from n)) ≡ find u (map (λ f. (x, f)) (range_with_len from n))
 piece_same t u x from zero h = refl
@@ -32,12 +33,18 @@ fields_same t u count (x ∷ xs) h =
     ∙ ap (option_or (find u piece)) (fields_same t u count xs (λ a f l m. h a f (or_right (eqb a x) (is_listed xs a) l) m))
     ∙ sym (find-append u piece rest)
 
-module _ (image : HeapImage) (roots : List ℕ) where
+module _ (image : HeapImage) (roots : List ℕ) (closed : IsClosed image roots (is_listed (reachable image roots))) where
   abbrev live : List ℕ
   live = reachable image roots
 
   abbrev rooted : HeapImage
   rooted = record image { live = reachable image roots; roots = Some roots }
+
+  live_below : (i : ℕ) → i < length live → get_or live i 0 < heap_words image
+  live_below i l =
+      let is = reachable_is image roots in
+      let at : i < length (filter is.0 (range_with_len 0 (heap_words image))) = subst (λ xs. i < length xs) is.1 l in
+      subst (λ xs. get_or xs i 0 < heap_words image) (sym is.1) (let low = filter_below is.0 0 (heap_words image) i at in omega arith)
 
   sound_at : unsound_header rooted ≡ None → (a : ℕ) → is_listed live a ≡ true → is_unsound image a ≡ false
   sound_at none a listed =
@@ -52,7 +59,7 @@ module _ (image : HeapImage) (roots : List ℕ) where
       elim (cases_lt (heap_words image) w) [
         | inl outside ↦
             let none : list_any (λ c. eqb w (c + 1)) live ≡ false = list_any_none (λ c. eqb w (c + 1)) live (All-from_get_or (λ c. eqb w (c + 1) ≡ false) live 0 (λ i m.
-            let inside = reachable-below image roots (get_or live i 0) (listed_at live i m) in
+            let inside : get_or live i 0 < heap_words image = live_below i m in
             ne_eqb w (get_or live i 0 + 1) (λ e. let no : ⊥ = omega arith in no))) in
             ap not (or_from (eqb w 0) (list_any (λ c. eqb w (c + 1)) live) (ne_eqb w 0 (λ e. let no : ⊥ = omega arith in no)) none)
             ∙ sym (lt-ltb (heap_words image) w outside)
@@ -65,14 +72,11 @@ module _ (image : HeapImage) (roots : List ℕ) where
               let field : get_or (range_with_len 0 (references_at image a)) f 0 ≡ f = get_or-range_with_len 0 (references_at image a) f 0 l ∙ omega arith in
               let leads : leads_to (reference_at image a (get_or (range_with_len 0 (references_at image a)) f 0)) b ≡ true = ap (λ k. leads_to (reference_at image a k) b) field ∙ eq-eqb w (b + 1) is in
               let refers : refers_to image a b ≡ true = and_from (not (is_unsound image a)) (list_any (λ k. leads_to (reference_at image a k) b) (range_with_len 0 (references_at image a))) (ap not sound) (list_any_at (λ k. leads_to (reference_at image a k) b) (range_with_len 0 (references_at image a)) f 0 at leads) in
-              let lives : is_listed live b ≡ true = (reachable-IsClosed image roots).from_objects a b listed refers (omega arith) in
+              let lives : is_listed live b ≡ true = closed.from_objects a b listed refers (omega arith) in
               ap not (or_right (eqb w 0) (list_any (λ c. eqb w (c + 1)) live) (any_listed (λ c. eqb w (c + 1)) live b lives (eq-eqb w (b + 1) is)))
               ∙ sym (le-ltb (heap_words image) w inside)
         ]
       ]
-    where
-      listed_at : (xs : List ℕ) (i : ℕ) → i < length xs → is_listed xs (get_or xs i 0) ≡ true
-      listed_at xs i m = list_any_at (λ b. eqb (get_or xs i 0) b) xs i 0 m (eq-eqb (get_or xs i 0) (get_or xs i 0) refl)
 
   -- where all headers are sound, what dangles leads out of the heap
   pub dangling_is_beyond : unsound_header rooted ≡ None → dangling rooted ≡ beyond rooted

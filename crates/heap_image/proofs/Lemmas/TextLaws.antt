@@ -9,12 +9,13 @@ use Rattle.std.specs.Prelude.{map, All, IfSome}
 use Rattle.std.specs.Option.{is_some}
 use Rattle.std.specs.List.{range_with_len}
 use Rattle.std.specs.Int.{w64, to_le_bytes, from_le_bytes}
-use Rattle.heap_image.specs.HeapImage.{HeapImage, IsValid, AreRoots, heap_words, reachable, roots_or}
+use Rattle.object_heap.specs.HeapImage.{HeapImage, IsValid, AreRoots, heap_words, reachable, roots_or}
 use Rattle.heap_image.specs.Reading.{HasFittingNumbers}
-use Rattle.heap_image.specs.Version.{has_roots}
-use Rattle.heap_image.specs.declared.version.Version.{Version}
-use Rattle.heap_image.specs.declared.version.Version.TheVariants.{One, Two, Three}
-use Rattle.heap_image.specs.ImageText.{front, numbers, text, listed_text, with_tail, from_tail, encoded_version, encoded_image, encoded_numbers, encoded_words, encoded_count, encoded_region_log, encoded_length, u64_at}
+use Rattle.object_heap.specs.Version.{has_roots}
+use Rattle.object_heap.specs.declared.version.Version.{Version}
+use Rattle.object_heap.specs.declared.version.Version.TheVariants.{One, Two, Three}
+use Rattle.heap_image.specs.ImageText.{front, text, listed_text, with_tail, from_tail, encoded_version, encoded_image, encoded_numbers, encoded_words, encoded_count, encoded_region_log, encoded_length}
+use Rattle.image_streams.specs.Numbers.{numbers, u64_at}
 use Rattle.heap_image.proofs.Lemmas.LiveWords.{live_end-le}
 use Rattle.heap_image.proofs.Lemmas.Versions.{FitsFront, few_of_listed, magic_names}
 

@@ -3,12 +3,13 @@ use Rattle.std.proofs.Common.{◌≡◌, ℕ, ◌<◌, ◌^◌, ◌++◌, ◌⊎
 use Rattle.std.proofs.lemmas.List.{append-nil}
 use Rattle.std.proofs.lemmas.Nat.{from_le_bytes-to_le_bytes_4, from_le_bytes-to_le_bytes_8}
 use Rattle.std.specs.List.{concat}
-use Rattle.heap_image.specs.HeapImage.{HeapImage, image_of}
-use Rattle.heap_image.specs.ImageText.{listed_text, front, front_faults, numbers, from_tail, first_some, first_fault, live_list_faults, encoded_version, encoded_region_log, encoded_count, encoded_words}
+use Rattle.object_heap.specs.HeapImage.{HeapImage, image_of}
+use Rattle.heap_image.specs.ImageText.{listed_text, front, front_faults, from_tail, first_some, first_fault, live_list_faults, encoded_version, encoded_region_log, encoded_count, encoded_words}
+use Rattle.image_streams.specs.Numbers.{numbers}
 use Rattle.heap_image.specs.Reading.{HasFittingNumbers}
-use Rattle.heap_image.specs.declared.fault.Fault.{Fault}
-use Rattle.heap_image.specs.declared.fault.Fault.TheVariants.{Memory}
-use Rattle.heap_image.specs.declared.version.Version.{Version}
+use Rattle.image_streams.specs.declared.fault.Fault.{Fault}
+use Rattle.image_streams.specs.declared.fault.Fault.TheVariants.{Memory}
+use Rattle.object_heap.specs.declared.version.Version.{Version}
 use Rattle.heap_image.proofs.Lemmas.Faultless.{first_some-append, first_fault-append}
 use Rattle.heap_image.proofs.Lemmas.Versions.{magic_names}
 use Rattle.heap_image.proofs.Lemmas.Refusing.{front_faults-append, faults_same}

@@ -5,14 +5,13 @@ use Rattle.std.proofs.lemmas.List.{get_or-map, length-map}
 use Rattle.std.proofs.lemmas.List.Elements.{All-from_get_or}
 use Rattle.std.specs.Prelude.{All, IfSome, map}
 use Rattle.std.specs.Option.{is_some}
-use Rattle.heap_image.specs.HeapImage.{HeapImage, IsValid, AreRoots, HasSoundHeader, heap_words, reachable, roots_or}
+use Rattle.object_heap.specs.HeapImage.{HeapImage, IsValid, AreRoots, HasSoundHeader, heap_words, reachable, roots_or}
 use Rattle.heap_image.specs.Upgrade.{in_version_three, upgraded, upgraded_version}
-use Rattle.heap_image.specs.Version.{Allows, has_roots}
-use Rattle.heap_image.specs.declared.version.Version.{Version}
-use Rattle.heap_image.specs.declared.version.Version.TheVariants.{One, Two, Three}
+use Rattle.object_heap.specs.Version.{Allows, has_roots}
+use Rattle.object_heap.specs.declared.version.Version.{Version}
+use Rattle.object_heap.specs.declared.version.Version.TheVariants.{One, Two, Three}
 use Rattle.heap_image.proofs.Lemmas.LiveWords.{live_end-le}
 use Rattle.heap_image.proofs.Lemmas.TextLaws.{few_listed, reachable-words}
-use Rattle.heap_image.proofs.Lemmas.RootsToLive.{live_roots}
 
 -- what is sound does not depend on roots
 sound_same : (image : HeapImage) (version : Version) (roots : Option (List ℕ)) (a : ℕ) → HasSoundHeader image a → HasSoundHeader (record image { version = version; roots = roots }) a
@@ -31,8 +30,8 @@ module _ (image : HeapImage) (valid : IsValid image) where
   pub roots_fit : All (λ a. a + 1 < 2 ^ 64) image.live
   roots_fit = All-from_get_or (λ a. a + 1 < 2 ^ 64) image.live 0 (λ i l. let b = live_below i l in let few = valid.limits.few_words in omega arith)
 
-  pub upgraded-IsValid : image.roots ≡ None → (roots : List ℕ) → roots ≡ map (λ a. a + 1) image.live → IsValid (record image { version = Two; roots = Some roots })
-  upgraded-IsValid none roots e =
+  pub upgraded-IsValid : image.live ≡ reachable image (map (λ a. a + 1) image.live) → image.roots ≡ None → (roots : List ℕ) → roots ≡ map (λ a. a + 1) image.live → IsValid (record image { version = Two; roots = Some roots })
+  upgraded-IsValid reached none roots e =
       let long = length-map image.live (λ a. a + 1) in
       let same = ap length e in
       record {
@@ -50,7 +49,7 @@ module _ (image : HeapImage) (valid : IsValid image) where
               let at : get_or (map (λ a. a + 1) image.live) i 0 ≡ get_or image.live i 0 + 1 = get_or-map (λ a. a + 1) image.live i 0 0 m in
               let b = live_below i m in
               omega arith));
-          reached = live_roots image valid.live_list ∙ ap (reachable image) (sym e) ∙ sym (reachable-words image Two image.live (Some roots) roots);
+          reached = reached ∙ ap (reachable image) (sym e) ∙ sym (reachable-words image Two image.live (Some roots) roots);
         };
       }
 

@@ -2,11 +2,11 @@
 use Rattle.std.proofs.Common.{◌≡◌, ℕ, ◌≤◌, ◌<◌, ◌^◌, false, refl, arith, not}
 use Rattle.std.proofs.lemmas.Bool.{true≢false}
 use Rattle.std.specs.Str.{bytes_eq}
-use Rattle.heap_image.specs.HeapImage.{IsWithinLimits}
-use Rattle.heap_image.specs.ImageText.{magic, version_of_magic}
-use Rattle.heap_image.specs.Version.{Allows, has_roots, max_region_log, max_regions, max_words}
-use Rattle.heap_image.specs.declared.version.Version.{Version}
-use Rattle.heap_image.specs.declared.version.Version.TheVariants.{One, Two, Three}
+use Rattle.object_heap.specs.HeapImage.{IsWithinLimits}
+use Rattle.object_heap.specs.Version.{magic, Allows, has_roots, max_region_log, max_regions, max_words}
+use Rattle.heap_image.specs.ImageText.{version_of_magic}
+use Rattle.object_heap.specs.declared.version.Version.{Version}
+use Rattle.object_heap.specs.declared.version.Version.TheVariants.{One, Two, Three}
 
 -- no version allows more
 pub log_few : (v : Version) (n : ℕ) → n ≤ max_region_log v → n ≤ 20

@@ -3,21 +3,20 @@ use Rattle.std.proofs.Common.{◌≡◌, ℕ, ◌+◌, ◌-◌, ◌≤◌, ◌<�
 use Rattle.std.proofs.lemmas.Bool.{cases_eq, eq-eqb, or_left, or_right, and_from}
 use Rattle.std.proofs.lemmas.List.Folds.{list_any_at}
 use Rattle.std.proofs.lemmas.List.FromFn.{get_or-range_with_len, length-range_with_len}
-use Rattle.std.specs.Prelude.{option_map}
+use Rattle.std.specs.Prelude.{All, option_map}
 use Rattle.std.specs.List.{list_any, range_with_len}
-use Rattle.heap_image.specs.HeapImage.{HeapImage, heap_words, with_live, references_at, reference_at, is_null_or_live, is_unsound, leads_to, refers_to, reachable}
-use Rattle.heap_image.specs.ImageText.{first_some, first_object_fault, is_dangling, fields_of, overlapping, dangling}
-use Rattle.heap_image.specs.declared.fault.Fault.TheVariants.{Header, Overlap, Reference}
-use Rattle.heap_image.specs.Marking.{IsWellFormed, AreReachedWell}
-use Rattle.heap_image.specs.Reachable.{is_listed}
-use Rattle.heap_image.specs.Soundness.{AreWellFormed}
+use Rattle.object_heap.specs.HeapImage.{HeapImage, heap_words, with_live, references_at, reference_at, is_null_or_live, is_unsound, leads_to, refers_to, reachable}
+use Rattle.heap_image.specs.ImageText.{first_some, first_object_fault}
+use Rattle.object_heap.specs.ObjectFaults.{is_dangling, fields_of, overlapping, dangling}
+use Rattle.image_streams.specs.declared.fault.Fault.TheVariants.{Header, Overlap, Reference}
+use Rattle.heap_marking.specs.Marking.{IsWellFormed, AreReachedWell}
+use Rattle.object_heap.specs.Reachable.{is_listed, IsClosed}
+use Rattle.live_objects.specs.Soundness.{AreWellFormed}
 use Rattle.heap_image.proofs.Lemmas.Faultless.{find_none, find_none_in_flat_map, find_none_in_fields}
-use Rattle.heap_image.proofs.Lemmas.Listed.{any_listed}
-use Rattle.heap_image.proofs.Lemmas.Reaches.{reachable-IsClosed, reachable-below}
-use Rattle.heap_image.proofs.Lemmas.RootsToLive.{listed_at}
+use Rattle.heap_image.proofs.Lemmas.Listed.{any_listed, listed_at}
 
 -- what is reached, if nothing was found to be wrong on the way
-module _ (heap : HeapImage) (roots live : List ℕ) (is : live ≡ reachable heap roots) (well : AreReachedWell heap roots) where
+module _ (heap : HeapImage) (roots live : List ℕ) (closed : IsClosed heap roots (is_listed (reachable heap roots))) (inside : All (λ a. a < heap_words heap) live) (is : live ≡ reachable heap roots) (well : AreReachedWell heap roots) where
   abbrev image : HeapImage
   image = with_live heap live
 
@@ -25,7 +24,7 @@ module _ (heap : HeapImage) (roots live : List ℕ) (is : live ≡ reachable hea
   listed i l = subst (λ xs. is_listed xs (get_or live i 0) ≡ true) is (listed_at live i l)
 
   formed : (i : ℕ) → i < length live → IsWellFormed heap (get_or live i 0)
-  formed i l = well (get_or live i 0) (reachable-below heap roots (get_or live i 0) (listed i l)) (listed i l)
+  formed i l = well (get_or live i 0) (inside i 0 l) (listed i l)
 
   -- a sound object with a reference to an address refers to it
   refers : (a b f : ℕ) → is_unsound heap a ≡ false → f < references_at heap a → reference_at heap a f ≡ b + 1 → refers_to heap a b ≡ true
@@ -47,7 +46,7 @@ module _ (heap : HeapImage) (roots live : List ℕ) (is : live ≡ reachable hea
             let high : w ≤ heap_words heap = (formed i l).inside f m in
             let e : w ≡ b + 1 = omega arith in
             let reached : is_listed (reachable heap roots) b ≡ true =
-            (reachable-IsClosed heap roots).from_objects a b (listed i l) (refers a b f (formed i l).sound m e) (omega arith) in
+            closed.from_objects a b (listed i l) (refers a b f (formed i l).sound m e) (omega arith) in
             or_right (eqb w 0) (list_any (λ b. eqb w (b + 1)) live) (any_listed (λ b. eqb w (b + 1)) live b (subst (λ xs. is_listed xs b ≡ true) (sym is) reached) (eq-eqb w (b + 1) e))
       ]
 

@@ -4,11 +4,11 @@ use Rattle.std.proofs.lemmas.Bool.{le-ltb, true≢false}
 use Rattle.std.proofs.lemmas.List.{take-append-drop, append-nil}
 use Rattle.std.specs.Prelude.{IfOk, OnOk, IfErr, IfSome}
 use Rattle.std.specs.Io.KnownBytes.{Consumes, IsAtEnd}
-use Rattle.heap_image.specs.declared.fault.Fault.{Fault}
-use Rattle.heap_image.specs.declared.fault.Fault.TheVariants.{TruncatedBody, Memory}
-use Rattle.heap_image.specs.Device.{is_io}
-use Rattle.heap_image.specs.HeapImage.{HeapImage, IsValid}
-use Rattle.heap_image.specs.declared.version.Version.{Version}
+use Rattle.image_streams.specs.declared.fault.Fault.{Fault}
+use Rattle.image_streams.specs.declared.fault.Fault.TheVariants.{TruncatedBody, Memory}
+use Rattle.image_streams.specs.Device.{is_io}
+use Rattle.object_heap.specs.HeapImage.{HeapImage, IsValid}
+use Rattle.object_heap.specs.declared.version.Version.{Version}
 use Rattle.heap_image.specs.ImageText.{front, text, fault_if, first_some, first_fault, front_faults, layout_faults, encoded_length}
 use Rattle.heap_image.specs.Refusals.{IsReason}
 use Rattle.heap_image.proofs.Lemmas.Faultless.{first_some-append, first_some_past, first_some-None, fault_if-None, front_faults-None, layout_fault-truncated, first_fault-text}

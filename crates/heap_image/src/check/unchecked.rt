@@ -1,18 +1,16 @@
 //! The live objects of an image that was read, and their check.
 ghost use Rattle.std.specs.Prelude.{◌≡◌, ◌<◌, ◌≤◌, ◌^◌, ◌⊎◌, Some, None, All, length, IfOk, IfSome, OnOk, IfErr, IsTrue, option_map};
-ghost use Rattle.heap_image.specs.Bits.{MarkBegins};
-ghost use Rattle.heap_image.specs.Sizes.{AreSizes};
-ghost use Rattle.heap_image.specs.Soundness.{AreWellFormed};
-ghost use Rattle.heap_image.specs.HeapImage.{heap_words, with_live};
+ghost use Rattle.object_heap.specs.Bits.{MarkBegins};
+ghost use Rattle.object_heap.specs.Sizes.{AreSizes};
+ghost use Rattle.live_objects.specs.Soundness.{AreWellFormed};
+ghost use Rattle.object_heap.specs.HeapImage.{heap_words, with_live};
 ghost use Rattle.heap_image.specs.ImageText.{from_tail, first_some, first_object_fault, live_list_faults};
 
-use super::soundness::{PIECE, sizes_if_sound};
 use super::{check_live, misplaced_index};
-use crate::bits::Bits;
-use crate::heap::Heap;
-use crate::marking::Marker;
 use crate::marking::reach::{Reached, find_reachable};
 use crate::{Fault, Version};
+use live_objects::{Marker, PIECE, sizes_if_sound};
+use object_heap::{Bits, Heap};
 use std::alloc::Global;
 
 /// The live objects of an image that was read, before they are checked.

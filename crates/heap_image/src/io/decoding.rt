@@ -1,12 +1,12 @@
 //! Decodes an image from bytes in memory.
 ghost use Rattle.std.specs.Prelude.{◌≡◌, ◌≢◌, ◌⊎◌, ◌≤◌, ◌+◌, ◌*◌, ◌<◌, Some, None, Ok, Err, length, IfOk, OnOk, IfErr};
-ghost use Rattle.heap_image.specs.HeapImage.{HeapImage, IsValid};
+ghost use Rattle.object_heap.specs.HeapImage.{HeapImage, IsValid};
 ghost use Rattle.heap_image.specs.ImageText.{text, first_fault, first_some, layout_faults};
 
 use super::front::{FRONT_BYTES, Front};
-use super::intake::{Failed, Intake};
 use super::read::{read_image, read_image_by_threads};
 use crate::{Fault, Image};
+use image_streams::{Failed, Intake};
 use std::alloc::Global;
 use std::thread::Threads;
 

@@ -2,10 +2,9 @@
 ghost use Rattle.std.specs.Prelude.{◌≡◌, IfOk};
 ghost use Rattle.heap_image.specs.ImageText.{text};
 
-use super::intake::Failed;
-use super::outlet::Outlet;
 use super::write::write_image;
 use crate::Image;
+use image_streams::{Failed, Outlet};
 use std::alloc::{AllocError, Global};
 
 /// The text of an image. The only error is that memory runs out.

@@ -1,20 +1,19 @@
 //! The front: the first 32 bytes of an image's text.
 ghost use Rattle.std.specs.Prelude.{◌≡◌, ◌≢◌, ◌<◌, ◌≤◌, ◌^◌, ◌+◌, ◌*◌, length, take, is_some, Some, IfOk, IfErr, IfNone, IfSome, option_map};
 ghost use Rattle.std.specs.Str.{bytes_eq};
-ghost use Rattle.heap_image.specs.ImageText.{front, front_faults, first_some, magic, encoded_region_log, encoded_count, encoded_version, encoded_words};
-ghost use Rattle.heap_image.specs.HeapImage.{IsWithinLimits};
-ghost use Rattle.heap_image.specs.Version.{Allows, max_region_log};
+ghost use Rattle.heap_image.specs.ImageText.{front, front_faults, first_some, encoded_region_log, encoded_count, encoded_version, encoded_words};
+ghost use Rattle.object_heap.specs.Version.{magic, Allows, max_region_log};
+ghost use Rattle.object_heap.specs.HeapImage.{IsWithinLimits};
 ghost use Rattle.heap_image.specs.LengthCause.{length_causes, first_length_cause};
 ghost use Rattle.heap_image.specs.Refusals.{IsOfFront};
+ghost use Rattle.image_streams.specs.Body.{body_words};
 
-pub(crate) mod body_size;
 pub(crate) mod length_cause;
 
-use super::numbers::{u32_at, u64_at};
 use crate::limits::MIN_REGION_LOG;
 use crate::{Fault, LengthCause, Version};
-use body_size::BodySize;
 use byteorder::{ByteOrder, LittleEndian};
+use image_streams::{BodySize, Extent, u32_at, u64_at};
 
 /// The number of bytes of a front.
 pub const FRONT_BYTES: usize = 32;
@@ -156,6 +155,18 @@ impl Front {
         }
         None
     }
+}
+
+/// The extent of the body that follows this front of a file, if the front is valid.
+pub fn extent_after_front(front: &[u8; FRONT_BYTES]) -> Option<Extent>
+    ensures log { IfSome result (λ extent. extent.size.region_log ≤ 20) }
+    ensures few { IfSome result (λ extent. body_words extent.size ≤ 137438953472) }
+{
+    let front = Front::parse(front).ok()?;
+    Some(Extent {
+        at: FRONT_BYTES as u64,
+        size: front.body_size(),
+    })
 }
 
 /// The version that the magic of a front names.

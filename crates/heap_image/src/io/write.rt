@@ -1,14 +1,13 @@
 //! Writes the text of an image to a device.
 ghost use Rattle.std.specs.Prelude.{◌≡◌, ◌≢◌, ◌⊎◌, ◌≤◌, IfErr, IfOk, OnOk, OnErr, IsTrue, Err, length, false};
 ghost use Rattle.std.specs.Io.KnownBytes.{Appends};
-ghost use Rattle.heap_image.specs.Device.{is_io};
+ghost use Rattle.image_streams.specs.Device.{is_io};
 ghost use Rattle.heap_image.specs.ImageText.{text};
-ghost use Rattle.heap_image.specs.Outgoing.{TakesBeginning};
+ghost use Rattle.image_streams.specs.Outgoing.{TakesBeginning};
 
 use super::front::Front;
-use super::outlet::{Outlet, give_all};
-use crate::io::numbers::outgoing::Outgoing;
 use crate::{Fault, Image};
+use image_streams::{Outgoing, Outlet, give_all, pieces_sent};
 use std::alloc::{AllocError, Global};
 
 /// The most numbers that [`write_image`] gives at a time.
@@ -72,6 +71,7 @@ fn write_through<W: Outlet>(image: &Image, writer: &mut W, room: &mut [u8]) -> R
         words: image.len(),
         allowance: image.allowance(),
     };
+    pieces_sent();
     give_all(writer, &front.to_bytes())?;
     let mut outgoing = Outgoing::new(room);
     for r in 0..image.regions() {

@@ -1,19 +1,18 @@
 //! Finds the live objects of a heap with roots.
 ghost use Rattle.std.specs.Prelude.{◌≡◌, ◌<◌, ◌≤◌, ◌^◌, ◌⊎◌, Some, None, [], All, length, find, nat_lt, slice_index, IfOk, OnOk, IfErr, IsTrue};
 ghost use Rattle.std.specs.List.{concat, range_with_len};
-ghost use Rattle.heap_image.specs.declared.version.Version.TheVariants.{Two};
-ghost use Rattle.heap_image.specs.HeapImage.{FormHeap, HasLiveList, heap_words, image_of, reachable, with_live};
-ghost use Rattle.heap_image.specs.ImageText.{first_some, from_tail, live_list_faults, misplaced_root};
-ghost use Rattle.heap_image.specs.Bits.{MarkBegins};
-ghost use Rattle.heap_image.specs.Soundness.{AreWellFormed};
+ghost use Rattle.object_heap.specs.declared.version.Version.TheVariants.{Two};
+ghost use Rattle.object_heap.specs.HeapImage.{FormHeap, HasLiveList, heap_words, image_of, reachable, with_live};
+ghost use Rattle.heap_image.specs.ImageText.{first_some, from_tail, live_list_faults};
+ghost use Rattle.object_heap.specs.ObjectFaults.{misplaced_root};
+ghost use Rattle.object_heap.specs.Bits.{MarkBegins};
+ghost use Rattle.live_objects.specs.Soundness.{AreWellFormed};
 
-use super::{Alone, Marker};
 use crate::Fault;
-use crate::bits::Bits;
 use crate::check::check_live;
-use crate::check::crowd::Crowd;
-use crate::check::soundness::sizes_if_sound;
-use crate::heap::Heap;
+use heap_marking::{Crowd, marks_are_listed};
+use live_objects::{Alone, Marker, sizes_if_sound};
+use object_heap::{Bits, Heap, reachable_is_the_least_closed};
 use raw_region::Region;
 use std::alloc::Global;
 use std::thread::Threads;
@@ -141,6 +140,8 @@ pub(crate) fn find_reachable<M: Marker>(
     ensures fault { let faults = live_list_faults (from_tail Two (with_live heap.now roots.now)) in
         IfErr result (λ fault. (fault ≡ Fault.Memory) ⊎ (first_some faults ≡ Some fault)) }
 {
+    reachable_is_the_least_closed();
+    marks_are_listed();
     let words = heap.len();
     if let Some(index) = misplaced_root(roots, words) {
         return Err(Fault::Root(index));

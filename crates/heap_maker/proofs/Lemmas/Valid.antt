@@ -2,10 +2,10 @@
 use Rattle.std.proofs.Common.{◌≡◌, ◌<◌, ◌≤◌, ◌^◌, List, ℕ, Some, false, refl, sym, subst, arith, All, length}
 use Rattle.std.proofs.lemmas.Bool.{true≢false}
 use Rattle.std.specs.List.{concat}
-use Rattle.heap_image.specs.HeapImage.{IsValid, IsWithinLimits, image_of, versioned_image_of}
-use Rattle.heap_image.specs.Version.{Allows, has_roots}
-use Rattle.heap_image.specs.declared.version.Version.{Version}
-use Rattle.heap_image.specs.declared.version.Version.TheVariants.{One, Two, Three}
+use Rattle.object_heap.specs.HeapImage.{IsValid, IsWithinLimits, image_of, versioned_image_of}
+use Rattle.object_heap.specs.Version.{Allows, has_roots}
+use Rattle.object_heap.specs.declared.version.Version.{Version}
+use Rattle.object_heap.specs.declared.version.Version.TheVariants.{One, Two, Three}
 use Rattle.heap_image.specs.Reading.{HasFittingNumbers}
 
 -- sizes that may be may be with any number of live objects up to that of the words

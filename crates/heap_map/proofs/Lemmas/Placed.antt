@@ -5,8 +5,8 @@ use Rattle.std.proofs.lemmas.Bool.{cond-false, cond-true, lt-ltb, le-ltb}
 use Rattle.std.proofs.lemmas.List.{get_or-map}
 use Rattle.std.proofs.lemmas.Nat.{le-div}
 use Rattle.std.proofs.Math.Nat.{div-mul-le_self}
-use Rattle.heap_image.specs.Header.{size_of}
-use Rattle.heap_image.specs.HeapImage.{HeapImage, end_of, live_words}
+use Rattle.object_heap.specs.Header.{size_of}
+use Rattle.object_heap.specs.HeapImage.{HeapImage, end_of, live_words}
 use Rattle.summary.specs.Compaction.{compact}
 use Rattle.summary.specs.LiveObjects.{object_at, object_count}
 use Rattle.summary.specs.NewAddresses.{new_address, new_end_of, next_at, prefix_end, stays}

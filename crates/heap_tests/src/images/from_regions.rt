@@ -1,6 +1,6 @@
 //! Tests of images of regions that a caller has.
 ghost use Rattle.std.specs.Prelude.{IfOk};
-ghost use Rattle.heap_image.specs.HeapImage.{AreBlocks};
+ghost use Rattle.object_heap.specs.HeapImage.{AreBlocks};
 
 use crate::checks::{equal, equal_bytes};
 use crate::images::texts::base_text;

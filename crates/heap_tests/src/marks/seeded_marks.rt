@@ -1,6 +1,6 @@
 //! Compares the marks of pseudo-random heaps with plain searches and counts over their objects.
 ghost use Rattle.std.specs.Prelude.{◌≡◌, ◌≤◌};
-ghost use Rattle.heap_image.specs.HeapImage.{heap_words};
+ghost use Rattle.object_heap.specs.HeapImage.{heap_words};
 
 use super::plain_marks;
 use crate::checks::holds_at;

@@ -3,7 +3,7 @@ use Rattle.std.proofs.Common.{◌≡◌, ℕ, ◌+◌, ◌<◌, ◌≤◌, List,
 use Rattle.std.specs.Prelude.{flat_map}
 use Rattle.std.specs.Int.{w64, to_le_bytes}
 use Rattle.std.proofs.lemmas.List.{drop_more, drop_all, reverse-append, take_more_set}
-use Rattle.heap_image.specs.ImageText.{numbers}
+use Rattle.image_streams.specs.Numbers.{numbers}
 
 -- the next chunk begins where the one before it ends
 pub next_chunk_left : {C : Type 0} (items : C → List ℕ) (chunk tail : List ℕ) (index : ℕ) (old new : List C) (next : C) → length chunk ≤ index → old ≡ new ++ (next ∷ [])

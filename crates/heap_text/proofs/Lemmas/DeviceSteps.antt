@@ -1,7 +1,7 @@
 -- The text of a valid image, from a device.
 use Rattle.std.proofs.Common.{◌≡◌, ◌∙◌, ◌⊎◌, inl, inr, ◌≤◌, ℕ, List, [], ◌++◌, Option, None, Some, Result, Ok, Err, refl, sym, ap, length, append-nil}
 use Rattle.std.specs.Io.KnownBytes.{Consumes, IsAtEnd}
-use Rattle.heap_image.specs.HeapImage.{HeapImage}
+use Rattle.object_heap.specs.HeapImage.{HeapImage}
 use Rattle.heap_text.specs.Parsing.{AcceptsFrom, AcceptsText, IsWaiting}
 use Rattle.heap_text.specs.TextLines.{IsOfNoLine}
 use Rattle.heap_text.specs.declared.error.AssembleError.{AssembleError}

@@ -6,8 +6,8 @@ use Rattle.std.proofs.lemmas.Bool.{cases_lt, cases_Bool, eqb-true}
 use Rattle.std.proofs.lemmas.List.{drop_more, length-take-le, get_or-take, get_or-drop, drop-drop, get_or_at, get_or_default}
 use Rattle.std.proofs.Math.Seq.{take-add}
 use Rattle.std.proofs.lemmas.List.Elements.{All-head, All-tail, All-take, All-drop, recursion_from_All}
-use Rattle.heap_image.specs.Header.{object_header}
-use Rattle.heap_image.specs.HeapImage.{HeapImage, IsValid, HasSoundHeader, heap_words, word_at, size_at, references_at, reference_at, end_of, is_null_or_live}
+use Rattle.object_heap.specs.Header.{object_header}
+use Rattle.object_heap.specs.HeapImage.{HeapImage, IsValid, HasSoundHeader, heap_words, word_at, size_at, references_at, reference_at, end_of, is_null_or_live}
 use Rattle.heap_text.specs.Text.{reference_text, number_text, references_text, numbers_text, object_text, are_equal, dead_words_text, dead_text, lines_from}
 use Rattle.heap_text.specs.TextLines.{ended_lines}
 use Rattle.heap_text.specs.Words.{all_equal, data_part, dead_part, references_part}

@@ -3,15 +3,16 @@ use Rattle.std.proofs.Common.{◌≡◌, ℕ, ◌^◌, ◌<◌, ◌≤◌, ◌�
 use Rattle.std.specs.Prelude.{if◌then◌else◌}
 use Rattle.std.proofs.lemmas.List.Concat.{flat_map-append}
 use Rattle.std.specs.Int.{w64, to_le_bytes}
-use Rattle.heap_image.specs.Version.{has_roots}
-use Rattle.heap_image.specs.declared.version.Version.{Version}
-use Rattle.heap_image.specs.HeapImage.{HeapImage, IsValid, AreRoots, heap_words, roots_or}
-use Rattle.heap_image.specs.ImageText.{front, numbers, text, with_tail}
+use Rattle.object_heap.specs.Version.{has_roots}
+use Rattle.object_heap.specs.declared.version.Version.{Version}
+use Rattle.object_heap.specs.HeapImage.{HeapImage, IsValid, AreRoots, heap_words, roots_or}
+use Rattle.heap_image.specs.ImageText.{front, text, with_tail}
+use Rattle.image_streams.specs.Numbers.{numbers}
 use Rattle.heap_image.specs.Reading.{HasFittingNumbers}
 use Rattle.heap_text.specs.Parsing.{HasContents, AcceptsText}
 use Rattle.heap_text.specs.Words.{tail_of, words_of}
-use Rattle.heap_image.specs.declared.fault.Fault.{Fault}
-use Rattle.heap_image.specs.declared.fault.Fault.TheVariants.{Memory as FaultMemory}
+use Rattle.image_streams.specs.declared.fault.Fault.{Fault}
+use Rattle.image_streams.specs.declared.fault.Fault.TheVariants.{Memory as FaultMemory}
 use Rattle.heap_text.specs.declared.error.TextError.{TextError}
 use Rattle.heap_text.specs.declared.error.TextError.TheVariants.{Memory, Line}
 use Rattle.heap_text.specs.declared.parsed_heap.ParsedHeap.{ParsedHeap}

@@ -5,11 +5,11 @@ use Rattle.std.specs.List.{range_with_len, list_all, AllAdjacentBelow, AllByRecu
 use Rattle.std.proofs.lemmas.Bool.{cases_lt, cases_Bool, and_parts, le-leb, lt-leb, eqb-true, true≢false}
 use Rattle.std.proofs.lemmas.List.Elements.{recursion_from_All, All-head, All-tail}
 use Rattle.std.proofs.lemmas.Fmt.{decimal_injective}
-use Rattle.heap_image.specs.Header.{size_of, references_of, kind_of}
-use Rattle.heap_image.specs.Version.{has_roots, number_of}
-use Rattle.heap_image.specs.declared.version.Version.{Version}
-use Rattle.heap_image.specs.declared.version.Version.TheVariants.{One, Two, Three}
-use Rattle.heap_image.specs.HeapImage.{HeapImage, IsValid, AreRoots, roots_or, HasSoundHeader, heap_words, word_at, size_at, references_at, end_of, version_of}
+use Rattle.object_heap.specs.Header.{size_of, references_of, kind_of}
+use Rattle.object_heap.specs.Version.{has_roots, number_of}
+use Rattle.object_heap.specs.declared.version.Version.{Version}
+use Rattle.object_heap.specs.declared.version.Version.TheVariants.{One, Two, Three}
+use Rattle.object_heap.specs.HeapImage.{HeapImage, IsValid, AreRoots, roots_or, HasSoundHeader, heap_words, word_at, size_at, references_at, end_of, version_of}
 use Rattle.heap_text.specs.Text.{addresses_between, reference_text, number_text, number_line, roots_text, roots_line, references_text, numbers_text, object_text, are_equal, dead_words_text, dead_text, lines_from, text_of}
 use Rattle.heap_text.specs.Parsing.{LiesAhead}
 use Rattle.heap_text.proofs.Lemmas.WordTexts.{some_reference, EndsToken, AreAlike, decimal_unique, decimal_is_word, reference_word, reference_is, reference_is_word, reference_injective, run_unique, list_unique}

@@ -5,9 +5,9 @@ use Rattle.std.specs.List.{AllByRecursion}
 use Rattle.std.proofs.lemmas.Bool.{cases_Bool, cases_lt, false≢true}
 use Rattle.std.proofs.lemmas.List.{take_all}
 use Rattle.std.proofs.lemmas.List.Elements.{recursion_from_All}
-use Rattle.heap_image.specs.Header.{object_header}
-use Rattle.heap_image.specs.Version.{has_roots}
-use Rattle.heap_image.specs.HeapImage.{HeapImage, IsValid, AreRoots, heap_words, end_of, size_at, references_at, roots_or, roots_of, version_of}
+use Rattle.object_heap.specs.Header.{object_header}
+use Rattle.object_heap.specs.Version.{has_roots}
+use Rattle.object_heap.specs.HeapImage.{HeapImage, IsValid, AreRoots, heap_words, end_of, size_at, references_at, roots_or, roots_of, version_of}
 use Rattle.heap_text.specs.Text.{number_line, reference_text, roots_text, object_text, dead_text, lines_from, text_of}
 use Rattle.heap_text.specs.TextLines.{ended_lines}
 use Rattle.heap_text.specs.Tokens.{IsToken, IsAfterToken}

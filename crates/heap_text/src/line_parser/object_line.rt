@@ -2,7 +2,7 @@
 ghost use Rattle.std.specs.Prelude.{◌≡◌, ◌<◌, ◌≤◌, ◌+◌, ◌^◌, ◌++◌, ◌∷◌, [], ℕ, List, OnOk, length, flat_map};
 ghost use Rattle.std.specs.List.{AllByRecursion};
 ghost use Rattle.heap_text.specs.Text.{number_text, reference_text};
-ghost use Rattle.heap_image.specs.Header.{object_header};
+ghost use Rattle.object_heap.specs.Header.{object_header};
 ghost use Rattle.heap_text.specs.Words.{Accepts, HasParsed, all_equal, HasPushed, references_part, data_part, has_some};
 
 use super::line_error::LineError;

@@ -9,8 +9,8 @@ use Rattle.std.proofs.Math.ListN.{length-append}
 use Rattle.std.proofs.lemmas.Bool.{cases_Bool, cases_lt, and_parts, ltb-true, leb-true, cond-true}
 use Rattle.std.proofs.lemmas.List.{get_or_default, get_or_append_left}
 use Rattle.std.proofs.lemmas.List.Folds.{Any-from_list_any, list_any-append}
-use Rattle.heap_image.specs.HeapImage.{HeapImage, IsValid, heap_words, size_at, references_at, word_at, is_live_word, is_null_or_live}
-use Rattle.heap_image.specs.Bits.{NoneFrom, IsFirstFrom}
+use Rattle.object_heap.specs.HeapImage.{HeapImage, IsValid, heap_words, size_at, references_at, word_at, is_live_word, is_null_or_live}
+use Rattle.object_heap.specs.Bits.{NoneFrom, IsFirstFrom}
 use Rattle.summary.specs.NewAddresses.{prefix_end, new_address, new_top}
 use Rattle.summary.specs.WordMoves.{origin, slid}
 use Rattle.summary.specs.Compaction.{is_reference_of, is_deferred, redirected, moved_word}

@@ -5,7 +5,7 @@ use Rattle.std.proofs.lemmas.Bool.{ne_eqb, cases_lt, ltb-true, and_parts}
 use Rattle.std.proofs.lemmas.Nat.{div-mul-add, mod-mul-add}
 use Rattle.std.proofs.lemmas.List.{map-append}
 use Rattle.std.proofs.lemmas.List.Elements.{All-nil, All-cons, All-get_or}
-use Rattle.heap_image.specs.HeapImage.{HeapImage, IsValid, heap_words, word_at, start_of}
+use Rattle.object_heap.specs.HeapImage.{HeapImage, IsValid, heap_words, word_at, start_of}
 use Rattle.summary.specs.NewAddresses.{new_top}
 use Rattle.summary.specs.WordMoves.{origin}
 use Rattle.scheduler.specs.MoveTable.{MoveTable, IsMoveTable}

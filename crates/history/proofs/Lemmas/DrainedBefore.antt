@@ -1,7 +1,7 @@
 -- What the word machine of a valid image keeps.
 use Rattle.std.proofs.Common.{◌≡◌, ℕ, List, Some, None, Option, refl, ap, ◌∙◌}
 use Rattle.std.specs.Prelude.{not, nat_lt, if◌then◌else◌}
-use Rattle.heap_image.specs.HeapImage.{HeapImage, IsValid, word_at}
+use Rattle.object_heap.specs.HeapImage.{HeapImage, IsValid, word_at}
 use Rattle.summary.specs.NewAddresses.{new_top}
 use Rattle.summary.specs.WordMoves.{origin}
 use Rattle.summary.specs.Compaction.{is_deferred, written, moved_word}

@@ -5,7 +5,7 @@ use Rattle.std.proofs.lemmas.Option.{slice_get-get_or}
 use Rattle.scheduler.specs.declared.reply.Reply.{Reply}
 use Rattle.std.proofs.Math.Seq.{take-suc, drop-cons}
 use Rattle.std.proofs.lemmas.List.{take-append-drop, length-take-le}
-use Rattle.heap_image.specs.HeapImage.{HeapImage}
+use Rattle.object_heap.specs.HeapImage.{HeapImage}
 use Rattle.scheduler.specs.MoveTable.{MoveTable}
 use Rattle.scheduler.specs.State.{State, AllAreSettled}
 use Rattle.scheduler.specs.Scheduler.{state_in}

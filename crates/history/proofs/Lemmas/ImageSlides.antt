@@ -3,7 +3,7 @@ use Rattle.std.proofs.Common.{◌≡◌, ℕ, ◌<◌, ◌∙◌, true, arith}
 use Rattle.std.specs.Prelude.{◌==◌, ◌&&◌, not}
 use Rattle.std.proofs.lemmas.Bool.{and_from, lt-ltb, ne_eqb, not_from_false}
 use Rattle.std.proofs.lemmas.Nat.{div-add-mod'}
-use Rattle.heap_image.specs.HeapImage.{HeapImage, IsValid, region_words, region_of, start_of}
+use Rattle.object_heap.specs.HeapImage.{HeapImage, IsValid, region_words, region_of, start_of}
 use Rattle.summary.specs.NewAddresses.{new_top}
 use Rattle.summary.specs.WordMoves.{is_to_fill}
 use Rattle.summary.specs.WordMoves.{reads as image_reads}

@@ -5,7 +5,7 @@ use Rattle.std.proofs.lemmas.Bool.{eq-eqb, ne_eqb, cases_lt}
 use Rattle.std.proofs.lemmas.Nat.{div-add-mod', mul-le, pow_below}
 use Rattle.std.proofs.lemmas.List.{get_or-set_other}
 use Rattle.std.proofs.lemmas.Grind.{get_or-set_at}
-use Rattle.heap_image.specs.HeapImage.{HeapImage, IsValid, heap_words, region_words, region_count}
+use Rattle.object_heap.specs.HeapImage.{HeapImage, IsValid, heap_words, region_words, region_count}
 use Rattle.scheduler.specs.MoveTable.{MoveTable}
 use Rattle.scheduler.specs.State.{State, Allows, IsStep, state_after}
 use Rattle.scheduler.specs.History.{entry}

@@ -1,6 +1,6 @@
 -- Calls that the word machine allows, one after the other.
 use Rattle.std.proofs.Common.{◌≡◌, ℕ, List, [], ◌∷◌, ◌++◌, refl}
-use Rattle.heap_image.specs.HeapImage.{HeapImage}
+use Rattle.object_heap.specs.HeapImage.{HeapImage}
 use Rattle.scheduler.specs.MoveTable.{MoveTable}
 use Rattle.scheduler.specs.History.{state_from, AreSteps}
 use Rattle.history.specs.Slide.{Slide, Machine, machine_after, machine_from, IsMachineStep, AreMachineSteps}

@@ -5,7 +5,7 @@ use Rattle.std.proofs.lemmas.List.{ext_get_or}
 use Rattle.std.proofs.lemmas.List.FromFn.{get_or-map-range_with_len, length-map-range_with_len}
 use Rattle.std.specs.Prelude.{map}
 use Rattle.std.specs.List.{range_with_len}
-use Rattle.heap_image.specs.HeapImage.{HeapImage, region_words}
+use Rattle.object_heap.specs.HeapImage.{HeapImage, region_words}
 
 pub region_low : (R q : ℕ) → q / R * R ≤ q
 region_low R q = let w = div-add-mod' q R in omega arith

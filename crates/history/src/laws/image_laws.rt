@@ -1,6 +1,6 @@
 //! Theorem about where the objects of an image go.
 ghost use Rattle.std.specs.Prelude.{ℕ, ◌+◌, ◌<◌, ◌≤◌, Contains};
-ghost use Rattle.heap_image.specs.HeapImage.{HeapImage, IsValid, heap_words, size_at, references_at};
+ghost use Rattle.object_heap.specs.HeapImage.{HeapImage, IsValid, heap_words, size_at, references_at};
 ghost use Rattle.summary.specs.NewAddresses.{new_address};
 
 use summary::laws::plan_laws;

@@ -1,6 +1,6 @@
 //! Theorem about schedules that have all their replies.
 ghost use Rattle.std.specs.Prelude.{true};
-ghost use Rattle.heap_image.specs.HeapImage.{HeapImage, IsValid};
+ghost use Rattle.object_heap.specs.HeapImage.{HeapImage, IsValid};
 ghost use Rattle.scheduler.specs.Schedule.{ScheduleView, IsHistory};
 ghost use Rattle.history.specs.Replay.{IsChecked};
 ghost use Rattle.history.specs.Record.{IsRecord};

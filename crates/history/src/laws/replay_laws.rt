@@ -1,7 +1,7 @@
 //! Theorem about the calls of a schedule that the word machine takes.
 
 ghost use Rattle.std.specs.Prelude.{◌≡◌, ℕ, List, map};
-ghost use Rattle.heap_image.specs.HeapImage.{HeapImage};
+ghost use Rattle.object_heap.specs.HeapImage.{HeapImage};
 ghost use Rattle.scheduler.specs.History.{state_of, IsLegal};
 ghost use Rattle.scheduler.specs.ImageMoves.{image_table};
 ghost use Rattle.scheduler.specs.Schedule.{ScheduleView, line_of};

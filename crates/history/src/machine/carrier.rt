@@ -1,7 +1,7 @@
 //! `Carrier`: the word machine's copying of words, over a plan.
 
 ghost use Rattle.std.specs.Prelude.{◌≡◌, ◌⊎◌, ◌+◌, ◌<◌, ◌≤◌, ℕ, Some, IfOk, length, slice_index, map, option_map};
-ghost use Rattle.heap_image.specs.HeapImage.{HeapImage, IsValid, heap_words, region_words, region_count, word_at, start_of};
+ghost use Rattle.object_heap.specs.HeapImage.{HeapImage, IsValid, heap_words, region_words, region_count, word_at, start_of};
 ghost use Rattle.summary.specs.NewAddresses.{new_top, new_live};
 ghost use Rattle.summary.specs.WordMoves.{origin};
 ghost use Rattle.summary.specs.Compaction.{moved_word, compacted_word, redirected, compact};

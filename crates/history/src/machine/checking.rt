@@ -1,7 +1,7 @@
 //! Schedules checked without moving a word.
 
 ghost use Rattle.std.specs.Prelude.{◌≡◌, ◌⊎◌, ℕ, Bool, IfOk, IfErr, IfSome, IfNone};
-ghost use Rattle.heap_image.specs.declared.fault.Fault.{Fault};
+ghost use Rattle.image_streams.specs.declared.fault.Fault.{Fault};
 ghost use Rattle.history.specs.Replay.{IsChecked, IsRefusedAt};
 ghost use Rattle.history.specs.LineCause.{IsExplained};
 

@@ -1,7 +1,7 @@
 //! The old addresses of the words that go to new addresses.
 
 ghost use Rattle.std.specs.Prelude.{◌≡◌, ◌<◌, ◌≤◌, false, IfOk};
-ghost use Rattle.heap_image.specs.HeapImage.{heap_words, is_live_word};
+ghost use Rattle.object_heap.specs.HeapImage.{heap_words, is_live_word};
 ghost use Rattle.summary.specs.NewAddresses.{prefix_end};
 ghost use Rattle.summary.specs.Fillers.{filler_word, may_begin_filler};
 ghost use Rattle.history.specs.Carrier.{AreOrigins};

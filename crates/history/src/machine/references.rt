@@ -1,7 +1,7 @@
 //! Which words are references of live objects, and when each is redirected.
 
 ghost use Rattle.std.specs.Prelude.{◌≡◌, ◌+◌, ◌<◌, IfOk, length, Contains};
-ghost use Rattle.heap_image.specs.HeapImage.{word_at};
+ghost use Rattle.object_heap.specs.HeapImage.{word_at};
 ghost use Rattle.summary.specs.Compaction.{is_deferred};
 ghost use Rattle.summary.specs.Updates.{is_late_reference};
 ghost use Rattle.history.specs.WordMachine.{is_redirected};

@@ -1,7 +1,7 @@
 //! Replays of schedules on a copy of the heap.
 
 ghost use Rattle.std.specs.Prelude.{◌≡◌, ◌⊎◌, ℕ, IfOk, IfErr};
-ghost use Rattle.heap_image.specs.declared.fault.Fault.{Fault};
+ghost use Rattle.image_streams.specs.declared.fault.Fault.{Fault};
 ghost use Rattle.history.specs.Carrier.{IsCarrier};
 ghost use Rattle.history.specs.Replay.{IsRefusedAt};
 ghost use Rattle.history.specs.Replayed.{IsReplayed, IsCarriedOut};

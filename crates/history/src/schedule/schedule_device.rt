@@ -1,8 +1,8 @@
 //! Parsing of a schedule from a device, line by line.
 ghost use Rattle.std.specs.Prelude.{◌≡◌, ◌≢◌, ◌≤◌, ◌⊎◌, ◌++◌, ◌||◌, ℕ, List, IsTrue, IfOk, IfErr, IfSome, IfNone, OnOk};
 ghost use Rattle.std.specs.Io.KnownBytes.{Consumes, IsAtEnd};
-ghost use Rattle.heap_image.specs.Device.{is_io};
-ghost use Rattle.heap_image.specs.declared.fault.Fault.{Fault};
+ghost use Rattle.image_streams.specs.Device.{is_io};
+ghost use Rattle.image_streams.specs.declared.fault.Fault.{Fault};
 ghost use Rattle.history.specs.ReadSchedule.{IsTextSchedule, IsBadHeader, IsMalformedAt, is_text_line};
 ghost use Rattle.history.specs.ScheduleText.{header_text, line_text, schedule_text};
 ghost use Rattle.history.specs.Window.{IsInRange, rest_of, unread};

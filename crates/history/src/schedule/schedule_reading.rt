@@ -1,7 +1,7 @@
 //! Parsing of a schedule.
 
 ghost use Rattle.std.specs.Prelude.{◌≡◌, ◌⊎◌, ℕ, IfOk, IfErr};
-ghost use Rattle.heap_image.specs.declared.fault.Fault.{Fault};
+ghost use Rattle.image_streams.specs.declared.fault.Fault.{Fault};
 ghost use Rattle.history.specs.ScheduleText.{schedule_text};
 ghost use Rattle.history.specs.ReadSchedule.{IsTextSchedule, IsMalformedAt};
 

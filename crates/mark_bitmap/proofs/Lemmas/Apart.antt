@@ -4,8 +4,8 @@ use Rattle.std.specs.List.{list_any}
 use Rattle.std.proofs.lemmas.Bool.{cases_order, eq-eqb, eqb-true, false_from_ne_true, true≢false}
 use Rattle.std.proofs.lemmas.List.Folds.{list_any_at, Any-from_list_any}
 use Rattle.std.proofs.lemmas.Grind.{get_or_default_zero}
-use Rattle.heap_image.specs.HeapImage.{HeapImage, IsValid, HasSoundHeader, size_at, end_of}
-use Rattle.heap_image.specs.Bits.{IsFirstFrom}
+use Rattle.object_heap.specs.HeapImage.{HeapImage, IsValid, HasSoundHeader, size_at, end_of}
+use Rattle.object_heap.specs.Bits.{IsFirstFrom}
 use Rattle.mark_bitmap.specs.Marks.{is_begin, is_end}
 
 -- two first addresses of one test are one

@@ -3,7 +3,7 @@ use Rattle.std.proofs.Common.{◌≡◌, ℕ, suc, ◌+◌, ◌-◌, ◌*◌, �
 use Rattle.std.proofs.lemmas.Bool.{cases_lt}
 use Rattle.std.proofs.lemmas.Nat.{pow-add, pow_below}
 use Rattle.std.proofs.Math.Nat.{one-le-pow, mul-le-mul_right, div-mul-le_self}
-use Rattle.heap_image.specs.HeapImage.{HeapImage, heap_words}
+use Rattle.object_heap.specs.HeapImage.{HeapImage, heap_words}
 use Rattle.mark_bitmap.specs.Marks.{block_words, block_count}
 
 -- the power of two that a block has words

@@ -2,8 +2,8 @@
 use Rattle.std.proofs.Common.{◌≡◌, ℕ, ◌+◌, ◌-◌, ◌≤◌, ◌<◌, inl, inr, Bool, true, false, ◌||◌, ◌&&◌, Option, None, Some, refl, sym, ◌∙◌, ap, arith}
 use Rattle.std.specs.Prelude.{not, unwrap_or, MatchOption}
 use Rattle.std.proofs.lemmas.Bool.{cases_lt, and_parts, true≢false}
-use Rattle.heap_image.specs.HeapImage.{HeapImage, IsValid, heap_words, is_live_word, is_dead_word}
-use Rattle.heap_image.specs.Bits.{NoneFrom, IsFirstFrom, NoneBetween, IsFirstBetween}
+use Rattle.object_heap.specs.HeapImage.{HeapImage, IsValid, heap_words, is_live_word, is_dead_word}
+use Rattle.object_heap.specs.Bits.{NoneFrom, IsFirstFrom, NoneBetween, IsFirstBetween}
 use Rattle.mark_bitmap.specs.Marks.{continues_at, is_begin, is_end}
 use Rattle.mark_bitmap.proofs.Lemmas.Runs.{rest, first-or, live-inside, runs-of}
 

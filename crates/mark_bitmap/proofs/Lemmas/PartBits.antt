@@ -10,8 +10,8 @@ use Rattle.std.proofs.lemmas.List.{get_or-take, get_or-drop, take-append-drop, l
 use Rattle.std.proofs.lemmas.List.Folds.{list_any-append, list_any_at, list_any_none}
 use Rattle.std.proofs.lemmas.Grind.{get_or_default_zero}
 use Rattle.std.proofs.lemmas.Nat.Bits.{bit_at-zero}
-use Rattle.heap_image.specs.HeapImage.{HeapImage, IsValid, size_at, end_of}
-use Rattle.heap_image.specs.Bits.{has}
+use Rattle.object_heap.specs.HeapImage.{HeapImage, IsValid, size_at, end_of}
+use Rattle.object_heap.specs.Bits.{has}
 use Rattle.mark_bitmap.proofs.Lemmas.Tests.{same_tests}
 use Rattle.mark_bitmap.specs.Marks.{AreBitsFrom, IsFirstObject, continues_at}
 use Rattle.mark_bitmap.proofs.Lemmas.Apart.{apart, sound_at, place_of}

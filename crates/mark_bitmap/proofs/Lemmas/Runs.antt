@@ -10,8 +10,8 @@ use Rattle.std.proofs.lemmas.List.Folds.{list_any_at}
 use Rattle.std.proofs.Math.Nat.{add-mul}
 use Rattle.std.proofs.Math.ListN.{set}
 use Rattle.std.proofs.lemmas.List.{get_or-set_same, get_or-set_other}
-use Rattle.heap_image.specs.HeapImage.{HeapImage, IsValid, heap_words, end_of, size_at, is_word_of, is_live_word}
-use Rattle.heap_image.specs.Bits.{has}
+use Rattle.object_heap.specs.HeapImage.{HeapImage, IsValid, heap_words, end_of, size_at, is_word_of, is_live_word}
+use Rattle.object_heap.specs.Bits.{has}
 use Rattle.mark_bitmap.specs.Marks.{AreBegins, AreBitsFrom, continues_at, is_begin, is_end}
 use Rattle.mark_bitmap.proofs.Lemmas.Tests.{same_tests}
 use Rattle.mark_bitmap.proofs.Lemmas.Apart.{place_of, sound_at, apart}

@@ -4,7 +4,7 @@ use Rattle.std.specs.Prelude.{Option, None, Some, slice_index}
 use Rattle.std.specs.Option.{is_some}
 use Rattle.std.proofs.lemmas.Bool.{true≢false}
 use Rattle.std.proofs.lemmas.List.{ext_get_or}
-use Rattle.heap_image.specs.HeapImage.{HeapImage, heap_words, word_at, roots_or, roots_of}
+use Rattle.object_heap.specs.HeapImage.{HeapImage, heap_words, word_at, roots_or, roots_of}
 use Rattle.verification.specs.Difference.{AreAlike}
 use Rattle.verification.specs.Verdict.{HaveSameShape}
 

@@ -1,7 +1,7 @@
 -- Each fault has a number.
 use Rattle.std.proofs.Common.{◌≡◌, arith}
-use Rattle.heap_image.specs.declared.fault.Fault.{Fault}
-use Rattle.heap_image.specs.declared.fault.Fault.TheVariants.{TruncatedHeader, Magic, RegionLog, Length, TruncatedBody, LiveOrder, Header, Overlap, Reference, Trailing, Memory, Workers, Io, Schedule, Overwritten, Gate, Root}
+use Rattle.image_streams.specs.declared.fault.Fault.{Fault}
+use Rattle.image_streams.specs.declared.fault.Fault.TheVariants.{TruncatedHeader, Magic, RegionLog, Length, TruncatedBody, LiveOrder, Header, Overlap, Reference, Trailing, Memory, Workers, Io, Schedule, Overwritten, Gate, Root}
 use Rattle.pcompact_c.specs.Faults.{number_of}
 
 pub is_numbered : (fault : Fault) → number_of fault ≡ 0 → ⊥

@@ -1,7 +1,7 @@
 //! What calls answer.
 ghost use Rattle.std.specs.Prelude.{◌≡◌};
 ghost use Rattle.collector.specs.Collections.{figures_of};
-ghost use Rattle.heap_image.specs.HeapImage.{HeapImage};
+ghost use Rattle.object_heap.specs.HeapImage.{HeapImage};
 ghost use Rattle.pcompact_c.specs.Answers.{IsSummaryOf};
 
 use crate::answers::fault::PcompactFault;

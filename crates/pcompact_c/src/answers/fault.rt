@@ -1,7 +1,7 @@
 //! Faults as C sees them.
 ghost use Rattle.std.specs.Prelude.{◌≡◌, Some, IfSome};
-ghost use Rattle.heap_image.specs.declared.fault.Fault.{Fault};
-ghost use Rattle.heap_image.specs.declared.fault.Fault.TheVariants.{Root};
+ghost use Rattle.image_streams.specs.declared.fault.Fault.{Fault};
+ghost use Rattle.image_streams.specs.declared.fault.Fault.TheVariants.{Root};
 ghost use Rattle.pcompact_c.specs.Faults.{IsOf, Fits, number_of};
 
 use heap_image::Fault;

@@ -1,6 +1,6 @@
 //! Compares two images.
 ghost use Rattle.std.specs.Prelude.{◌≡◌, ◌↔◌, IsTrue, MatchOption, length, slice_index};
-ghost use Rattle.heap_image.specs.HeapImage.{heap_words, word_at};
+ghost use Rattle.object_heap.specs.HeapImage.{heap_words, word_at};
 ghost use Rattle.verification.specs.Difference.{AreAlike, IsLeastDifference};
 ghost use Rattle.verification.specs.Verdict.{IsVerdict, HaveSameShape};
 

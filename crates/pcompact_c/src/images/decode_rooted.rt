@@ -1,8 +1,8 @@
 //! The heap of an image, with its roots.
 ghost use Rattle.std.specs.Prelude.{◌≡◌, ◌<◌, ◌⊎◌, Some, IfOk, IfErr};
-ghost use Rattle.heap_image.specs.declared.fault.Fault.{Fault};
-ghost use Rattle.heap_image.specs.declared.fault.Fault.TheVariants.{Memory};
-ghost use Rattle.heap_image.specs.HeapImage.{HeapImage, IsValid, roots_of};
+ghost use Rattle.image_streams.specs.declared.fault.Fault.{Fault};
+ghost use Rattle.image_streams.specs.declared.fault.Fault.TheVariants.{Memory};
+ghost use Rattle.object_heap.specs.HeapImage.{HeapImage, IsValid, roots_of};
 ghost use Rattle.heap_image.specs.ImageText.{text, first_fault};
 ghost use Rattle.heap_image.specs.Upgrade.{upgraded};
 ghost use Rattle.pcompact_c.specs.Faults.{IsOf};

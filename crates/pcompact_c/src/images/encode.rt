@@ -1,6 +1,6 @@
 //! The bytes of the image of a heap with a live list.
 ghost use Rattle.std.specs.Prelude.{◌≡◌, ◌<◌, ◌≤◌, ◌-◌, ◌^◌, ◌++◌, length, drop, min};
-ghost use Rattle.heap_image.specs.declared.version.Version.TheVariants.{One};
+ghost use Rattle.object_heap.specs.declared.version.Version.TheVariants.{One};
 ghost use Rattle.caller_heap.specs.HeapWords.{heap_bytes, image_size};
 
 use crate::images::heap_bytes::put_heap;

@@ -1,7 +1,7 @@
 //! The bytes of the image of a heap with roots.
 ghost use Rattle.std.specs.Prelude.{◌≡◌, ◌<◌, ◌≤◌, ◌-◌, ◌^◌, ◌++◌, length, drop, min};
-ghost use Rattle.heap_image.specs.Version.{IsForRoots};
-ghost use Rattle.heap_image.specs.declared.version.Version.{Version};
+ghost use Rattle.object_heap.specs.Version.{IsForRoots};
+ghost use Rattle.object_heap.specs.declared.version.Version.{Version};
 ghost use Rattle.caller_heap.specs.HeapWords.{heap_bytes, image_size};
 
 use crate::images::heap_bytes::put_heap;

@@ -1,7 +1,7 @@
 //! The comparison of an image with the compaction of another.
 ghost use Rattle.std.specs.Prelude.{◌≡◌, ◌<◌, ◌↔◌, ◌⊎◌, IsTrue, IfOk, IfErr};
-ghost use Rattle.heap_image.specs.declared.fault.Fault.{Fault};
-ghost use Rattle.heap_image.specs.HeapImage.{HeapImage, IsValid};
+ghost use Rattle.image_streams.specs.declared.fault.Fault.{Fault};
+ghost use Rattle.object_heap.specs.HeapImage.{HeapImage, IsValid};
 ghost use Rattle.heap_image.specs.ImageText.{text};
 ghost use Rattle.summary.specs.Compaction.{compact};
 ghost use Rattle.verification.specs.declared.verdict.Verdict.{Verdict};

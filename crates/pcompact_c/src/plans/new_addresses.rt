@@ -1,9 +1,9 @@
 //! The new addresses of objects that a host knows outside of its heap.
 ghost use Rattle.std.specs.Prelude.{◌≡◌, ◌<◌, ◌⊎◌, ℕ, Some, All, IsTrue, IfOk, IfErr, MatchOption, map};
-ghost use Rattle.heap_image.specs.declared.fault.Fault.{Fault};
-ghost use Rattle.heap_image.specs.declared.fault.Fault.TheVariants.{Memory, Root};
-ghost use Rattle.heap_image.specs.declared.version.Version.TheVariants.{One};
-ghost use Rattle.heap_image.specs.HeapImage.{HeapImage, IsValid, is_null_or_live};
+ghost use Rattle.image_streams.specs.declared.fault.Fault.{Fault};
+ghost use Rattle.image_streams.specs.declared.fault.Fault.TheVariants.{Memory, Root};
+ghost use Rattle.object_heap.specs.declared.version.Version.TheVariants.{One};
+ghost use Rattle.object_heap.specs.HeapImage.{HeapImage, IsValid, is_null_or_live};
 ghost use Rattle.heap_image.specs.ImageText.{text, first_fault};
 ghost use Rattle.summary.specs.Compaction.{redirected};
 ghost use Rattle.pcompact_c.specs.Faults.{IsOf};

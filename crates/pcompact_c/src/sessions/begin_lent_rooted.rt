@@ -1,9 +1,9 @@
 //! The begin of a collection by several threads of a heap with roots, in words that a host lends.
 ghost use Rattle.std.specs.Prelude.{◌≡◌, ◌<◌, ◌≤◌, ◌⊎◌, Some, false, All, length};
-ghost use Rattle.heap_image.specs.declared.fault.Fault.{Fault};
-ghost use Rattle.heap_image.specs.declared.fault.Fault.TheVariants.{Workers};
-ghost use Rattle.heap_image.specs.declared.version.Version.TheVariants.{Three};
-ghost use Rattle.heap_image.specs.HeapImage.{HeapImage, IsValid};
+ghost use Rattle.image_streams.specs.declared.fault.Fault.{Fault};
+ghost use Rattle.image_streams.specs.declared.fault.Fault.TheVariants.{Workers};
+ghost use Rattle.object_heap.specs.declared.version.Version.TheVariants.{Three};
+ghost use Rattle.object_heap.specs.HeapImage.{HeapImage, IsValid};
 ghost use Rattle.heap_image.specs.ImageText.{text};
 ghost use Rattle.caller_heap.specs.HeapWords.{heap_bytes};
 ghost use Rattle.caller_heap.specs.Lent.{AreBack, IsGone, IsWhyLentKept, heap_in};

@@ -1,7 +1,7 @@
 //! How the workers' parts in a collection are given to a host.
 ghost use Rattle.std.specs.Prelude.{◌≡◌, ◌⊎◌, ◌<◌, ◌≤◌, Some, false, IsTrue, All, length, vec_len};
-ghost use Rattle.heap_image.specs.HeapImage.{HeapImage};
-ghost use Rattle.heap_image.specs.declared.fault.Fault.TheVariants.{Memory, Workers};
+ghost use Rattle.object_heap.specs.HeapImage.{HeapImage};
+ghost use Rattle.image_streams.specs.declared.fault.Fault.TheVariants.{Memory, Workers};
 ghost use Rattle.collector.specs.Sessions.{image_of};
 ghost use Rattle.pcompact_c.specs.Faults.{IsOf};
 ghost use Rattle.pcompact_c.specs.Handles.{image_in};

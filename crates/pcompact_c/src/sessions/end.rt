@@ -1,7 +1,7 @@
 //! The end of a collection by several threads.
 ghost use Rattle.std.specs.Prelude.{◌≡◌, ◌<◌, true, None, is_some, All};
-ghost use Rattle.heap_image.specs.declared.fault.Fault.{Fault};
-ghost use Rattle.heap_image.specs.HeapImage.{HeapImage};
+ghost use Rattle.image_streams.specs.declared.fault.Fault.{Fault};
+ghost use Rattle.object_heap.specs.HeapImage.{HeapImage};
 ghost use Rattle.heap_image.specs.ImageText.{with_tail};
 ghost use Rattle.summary.specs.Compaction.{compact};
 ghost use Rattle.pcompact_c.specs.Answers.{IsSummaryOf};

@@ -1,7 +1,7 @@
 //! The end of a collection by several threads, in words that a host lends.
 ghost use Rattle.std.specs.Prelude.{◌≡◌, ◌<◌, ◌⊎◌, true, None, is_some, All, map};
-ghost use Rattle.heap_image.specs.declared.fault.Fault.{Fault};
-ghost use Rattle.heap_image.specs.HeapImage.{HeapImage};
+ghost use Rattle.image_streams.specs.declared.fault.Fault.{Fault};
+ghost use Rattle.object_heap.specs.HeapImage.{HeapImage};
 ghost use Rattle.heap_image.specs.ImageText.{with_tail};
 ghost use Rattle.summary.specs.Compaction.{compact};
 ghost use Rattle.caller_heap.specs.Lent.{HoldImage};

@@ -1,8 +1,8 @@
 //! How the workers' parts in a collection over lent words are taken back from a host, and its words are put back.
 ghost use Rattle.std.specs.Prelude.{◌≡◌, ◌≤◌, ◌⊎◌, List, ◌++◌, ◌∷◌, [], true, None, is_some, IsTrue, IfOk, OnOk, IfErr, All, map, length};
-ghost use Rattle.heap_image.specs.HeapImage.{HeapImage};
+ghost use Rattle.object_heap.specs.HeapImage.{HeapImage};
 ghost use Rattle.heap_image.specs.ImageText.{with_tail};
-ghost use Rattle.heap_image.specs.declared.fault.Fault.TheVariants.{Length, Workers};
+ghost use Rattle.image_streams.specs.declared.fault.Fault.TheVariants.{Length, Workers};
 ghost use Rattle.summary.specs.Compaction.{compact};
 ghost use Rattle.fill.specs.FillFaults.{IsOverwritten};
 ghost use Rattle.collector.specs.Collections.{figures_of};

@@ -1,7 +1,7 @@
 -- The blocks of a heap once all moves are made.
 use Rattle.std.proofs.Common.{◌≡◌, ℕ, ◌≤◌, inl, inr, cond, sym, ◌∙◌, ltb}
 use Rattle.std.proofs.lemmas.Bool.{cases_lt, cond-true, cond-false, lt-ltb, le-ltb}
-use Rattle.heap_image.specs.HeapImage.{HeapImage, start_of, block_of}
+use Rattle.object_heap.specs.HeapImage.{HeapImage, start_of, block_of}
 use Rattle.summary.specs.NewAddresses.{new_top}
 use Rattle.summary.specs.WordMoves.{is_to_fill}
 use Rattle.summary.specs.Compaction.{moved}

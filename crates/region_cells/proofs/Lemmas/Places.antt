@@ -6,7 +6,7 @@ use Rattle.std.proofs.lemmas.Bool.{cases_lt}
 use Rattle.std.proofs.lemmas.Nat.{le-div}
 use Rattle.std.proofs.Math.Nat.{mod-eq_of_lt, one-le-pow}
 use Rattle.std.proofs.lemmas.List.FromFn.{length-map-range_with_len, get_or-map-range_with_len}
-use Rattle.heap_image.specs.HeapImage.{HeapImage, IsValid, heap_words, region_words, region_count}
+use Rattle.object_heap.specs.HeapImage.{HeapImage, IsValid, heap_words, region_words, region_count}
 use Rattle.region_cells.specs.Cells.{image_in, place_of, places}
 use Rattle.region_cells.specs.Views.{ImageRegion}
 

@@ -9,8 +9,8 @@ use Rattle.std.proofs.lemmas.List.FromFn.{map-range_with_len_more, length-map-ra
 use Rattle.std.proofs.lemmas.Nat.{div-add-mod'}
 use Rattle.std.specs.Prelude.{map, Option}
 use Rattle.std.specs.List.{concat, range_with_len}
-use Rattle.heap_image.specs.HeapImage.{HeapImage, IsValid, AreBlocks, heap_words, region_count, region_words, start_of, block_of, versioned_image_of}
-use Rattle.heap_image.specs.declared.version.Version.{Version}
+use Rattle.object_heap.specs.HeapImage.{HeapImage, IsValid, AreBlocks, heap_words, region_count, region_words, start_of, block_of, versioned_image_of}
+use Rattle.object_heap.specs.declared.version.Version.{Version}
 
 abbrev pub blocks_of : HeapImage → List (List ℕ)
 blocks_of image = map (block_of image) (range_with_len 0 (region_count image))

@@ -3,7 +3,7 @@ use Rattle.std.proofs.Common.{◌≡◌, ℕ, zero, suc, ◌+◌, ◌-◌, ◌<�
 use Rattle.std.specs.Prelude.{◌==◌, ◌&&◌, not, filter, max, IfSome, MatchOption}
 use Rattle.std.specs.List.{range_with_len}
 use Rattle.std.proofs.lemmas.Bool.{cases_Bool, cases_eq, cases_lt, and_parts, and_from, eq-eqb, ne_eqb, not_from_false, false_from_ne_true}
-use Rattle.heap_image.specs.HeapImage.{HeapImage, IsValid, region_count}
+use Rattle.object_heap.specs.HeapImage.{HeapImage, IsValid, region_count}
 use Rattle.summary.specs.WordMoves.{reads as image_reads}
 use Rattle.summary.specs.Plan.{sources_from}
 use Rattle.summary.specs.PlanLaws.{PlanLaws}

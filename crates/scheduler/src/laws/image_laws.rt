@@ -1,6 +1,6 @@
 //! Theorem about the moves of an image.
 ghost use Rattle.std.specs.Prelude.{◌≡◌, ◌&&◌, ◌==◌, not, ℕ};
-ghost use Rattle.heap_image.specs.HeapImage.{HeapImage, IsValid, region_count as heap_regions};
+ghost use Rattle.object_heap.specs.HeapImage.{HeapImage, IsValid, region_count as heap_regions};
 ghost use Rattle.summary.specs.WordMoves.{is_to_fill, reads as image_reads};
 ghost use Rattle.scheduler.specs.MoveTable.{IsMoveTable, region_count, to_fill, reads};
 ghost use Rattle.scheduler.specs.ImageMoves.{image_table};

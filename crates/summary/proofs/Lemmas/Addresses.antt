@@ -3,7 +3,7 @@ use Rattle.std.proofs.Common.{◌≡◌, ℕ, zero, suc, ◌+◌, ◌-◌, ◌�
 use Rattle.std.proofs.lemmas.Bool.{cases_lt, cond-true, cond-false, lt-ltb, le-ltb}
 use Rattle.std.specs.Prelude.{fold, filter, ◌++◌}
 use Rattle.std.specs.List.{range_with_len}
-use Rattle.heap_image.specs.HeapImage.{HeapImage, HasLiveList, size_at, end_of, heap_words, last_end, live_words}
+use Rattle.object_heap.specs.HeapImage.{HeapImage, HasLiveList, size_at, end_of, heap_words, last_end, live_words}
 use Rattle.summary.proofs.Lemmas.Spans.{Apart, Apart-filter, held}
 use Rattle.summary.proofs.Lemmas.LiveWords.{live_apart, live_words-held, live_end-le}
 use Rattle.summary.specs.NewAddresses.{prefix_end, next_after, next_at, new_address, new_top, stays}

@@ -9,7 +9,7 @@ use Rattle.std.proofs.lemmas.List.FromFn.{take-map-range_with_len, length-map-ra
 use Rattle.std.proofs.lemmas.List.Sums.{sum_by-cons}
 use Rattle.std.specs.Prelude.{count_by, map, flat_map, sum, slice_range, not}
 use Rattle.std.specs.List.{range_with_len}
-use Rattle.heap_image.specs.HeapImage.{HeapImage, HasLiveList, heap_words, region_words, region_count, region_of, start_of, word_at, block_of, size_at, is_word_of, is_live_word, live_words}
+use Rattle.object_heap.specs.HeapImage.{HeapImage, HasLiveList, heap_words, region_words, region_count, region_of, start_of, word_at, block_of, size_at, is_word_of, is_live_word, live_words}
 use Rattle.summary.proofs.Lemmas.Spans.{count_by-cons, is_in_parts}
 use Rattle.summary.specs.NewAddresses.{prefix_end, new_address, new_top}
 use Rattle.summary.specs.WordMoves.{slid, origin}

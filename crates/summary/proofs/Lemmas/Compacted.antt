@@ -6,15 +6,15 @@ use Rattle.std.proofs.lemmas.List.Folds.{list_any_at, Any-from_list_any}
 use Rattle.std.proofs.lemmas.List.Elements.{All-from_get_or, All-map}
 use Rattle.std.specs.Prelude.{All, map, Option, None, Some, IfSome, option_map}
 use Rattle.std.specs.List.{list_any}
-use Rattle.heap_image.specs.Header.{references_of}
-use Rattle.heap_image.specs.HeapImage.{HeapImage, AreRoots, IsValid, HasLiveList, heap_words, references_at, reference_at, is_null_or_live, is_unsound, leads_to, refers_to, reachable}
+use Rattle.object_heap.specs.Header.{references_of}
+use Rattle.object_heap.specs.HeapImage.{HeapImage, AreRoots, IsValid, HasLiveList, heap_words, references_at, reference_at, is_null_or_live, is_unsound, leads_to, refers_to, reachable}
 use Rattle.summary.specs.NewAddresses.{new_address}
 use Rattle.summary.specs.Compaction.{redirected, compact}
 use Rattle.summary.proofs.Lemmas.Graph.{reference-object}
 use Rattle.summary.proofs.Lemmas.Origin.{length-compact}
 use Rattle.summary.proofs.Lemmas.Valid.{valid_with, compact-HasLiveList, header_of_moved, new_at, count_same}
-use Rattle.heap_image.specs.Reachable.{is_listed, IsClosed}
-use Rattle.heap_image.specs.LiveLaws.{LiveLaws}
+use Rattle.object_heap.specs.Reachable.{is_listed, IsClosed}
+use Rattle.object_heap.specs.LiveLaws.{LiveLaws}
 
 listed_at : (xs : List ℕ) (i : ℕ) → i < length xs → is_listed xs (get_or xs i 0) ≡ true
 listed_at xs i l = list_any_at (λ b. eqb (get_or xs i 0) b) xs i 0 l (eq-eqb (get_or xs i 0) (get_or xs i 0) refl)

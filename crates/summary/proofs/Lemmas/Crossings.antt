@@ -5,7 +5,7 @@ use Rattle.std.proofs.lemmas.List.{get_or-drop}
 use Rattle.std.proofs.lemmas.List.Sums.{prefix_len-le-length, prefix_len_passes}
 use Rattle.std.specs.Prelude.{Some, None, not}
 use Rattle.std.specs.List.{prefix_len}
-use Rattle.heap_image.specs.HeapImage.{HeapImage, HasLiveList, region_words, region_of, start_of, size_at}
+use Rattle.object_heap.specs.HeapImage.{HeapImage, HasLiveList, region_words, region_of, start_of, size_at}
 use Rattle.summary.specs.LiveObjects.{ArePlacedBelow}
 use Rattle.summary.specs.NewAddresses.{prefix_end, new_address}
 use Rattle.summary.specs.WordMoves.{slid}

@@ -6,7 +6,7 @@ use Rattle.std.proofs.lemmas.List.Folds.{fold-map}
 use Rattle.std.specs.Prelude.{filter, count_by}
 use Rattle.std.specs.List.{range_with_len}
 use Rattle.summary.proofs.Lemmas.Spans.{count_by-cons}
-use Rattle.heap_image.specs.HeapImage.{HeapImage, HasLiveList, heap_words, is_live_word, live_words, start_of}
+use Rattle.object_heap.specs.HeapImage.{HeapImage, HasLiveList, heap_words, is_live_word, live_words, start_of}
 use Rattle.summary.specs.NewAddresses.{prefix_end}
 use Rattle.summary.specs.WordMoves.{word_moves, slid}
 use Rattle.summary.specs.RegionData.{destination}

@@ -6,8 +6,8 @@ use Rattle.std.proofs.lemmas.List.FromFn.{get_or-range_with_len, length-range_wi
 use Rattle.std.proofs.lemmas.List.Sums.{prefix_len_is}
 use Rattle.std.specs.Prelude.{not}
 use Rattle.std.specs.List.{range_with_len, prefix_len}
-use Rattle.heap_image.specs.Header.{filler_header}
-use Rattle.heap_image.specs.HeapImage.{HeapImage, HasLiveList, is_live_word, is_dead_word}
+use Rattle.object_heap.specs.Header.{filler_header}
+use Rattle.object_heap.specs.HeapImage.{HeapImage, HasLiveList, is_live_word, is_dead_word}
 use Rattle.summary.specs.NewAddresses.{prefix_end, new_top}
 use Rattle.summary.specs.WordMoves.{origin}
 use Rattle.summary.specs.Fillers.{IsDeadRun, filler_limit, filler_word, gap_at, may_begin_filler}

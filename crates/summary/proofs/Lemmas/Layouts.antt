@@ -5,7 +5,7 @@ use Rattle.std.proofs.lemmas.Nat.{div-add-mod', mul-le}
 use Rattle.std.proofs.lemmas.List.FromFn.{get_or-map-range_with_len, length-map-range_with_len}
 use Rattle.std.proofs.Math.Nat.{zero-mul}
 use Rattle.std.specs.Prelude.{None}
-use Rattle.heap_image.specs.HeapImage.{HeapImage, IsValid, region_words, heap_words, region_count, start_of}
+use Rattle.object_heap.specs.HeapImage.{HeapImage, IsValid, region_words, heap_words, region_count, start_of}
 use Rattle.summary.specs.NewAddresses.{dead_words_below, prefix_end}
 use Rattle.summary.specs.RegionData.{partial_words, own_words, data_words, destination, readers_from}
 use Rattle.summary.specs.Layout.{region_counts, placed_region, AreRegionCounts}

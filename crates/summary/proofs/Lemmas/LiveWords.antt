@@ -1,7 +1,7 @@
 -- The live list of a sound image is a list of spans that do not overlap.
 use Rattle.std.proofs.Common.{◌≡◌, ℕ, suc, ◌+◌, ◌-◌, ◌≤◌, ◌<◌, List, [], ◌∷◌, length, get_or, ◌∙◌, ap, subst, arith, add-one}
 use Rattle.std.specs.List.{AllAdjacentBelow}
-use Rattle.heap_image.specs.HeapImage.{HeapImage, HasLiveList, size_at, end_of, heap_words, live_words}
+use Rattle.object_heap.specs.HeapImage.{HeapImage, HasLiveList, size_at, end_of, heap_words, live_words}
 use Rattle.summary.proofs.Lemmas.Spans.{Apart, held, count_by-in_any}
 
 Apart-from_adjacent : (size : ℕ → ℕ) (low : ℕ) (places : List ℕ) → (0 < length places → low ≤ get_or places 0 0) → AllAdjacentBelow (λ a b. a + size a ≤ b) places (length places) → Apart size low places

@@ -5,7 +5,7 @@ use Rattle.std.proofs.lemmas.List.{map-append}
 use Rattle.std.proofs.lemmas.List.Elements.{filter-append}
 use Rattle.std.specs.Prelude.{filter, flat_map, map}
 use Rattle.std.specs.List.{range_with_len}
-use Rattle.heap_image.specs.HeapImage.{HeapImage, HasLiveList, size_at, heap_words, is_live_word}
+use Rattle.object_heap.specs.HeapImage.{HeapImage, HasLiveList, size_at, heap_words, is_live_word}
 use Rattle.summary.proofs.Lemmas.Spans.{Apart, is_in, in_any, is_in_inside, is_in_below, is_in_above, in_any-below}
 use Rattle.summary.proofs.Lemmas.LiveWords.{live_apart, live_end-le}
 use Rattle.summary.specs.NewAddresses.{new_address}

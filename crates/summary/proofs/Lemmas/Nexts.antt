@@ -2,7 +2,7 @@
 use Rattle.std.proofs.Common.{◌≡◌, ℕ, zero, suc, ◌+◌, ◌≤◌, ◌<◌, inl, inr, max, Bool, List, [], ◌∷◌, length, get_or, take, sym, subst, arith, ltb}
 use Rattle.std.proofs.lemmas.Bool.{cases_lt, cond-true, cond-false, cond_both, le-ltb, lt-ltb}
 use Rattle.std.specs.Prelude.{filter, fold}
-use Rattle.heap_image.specs.HeapImage.{HeapImage, HasLiveList, heap_words, end_of, size_at}
+use Rattle.object_heap.specs.HeapImage.{HeapImage, HasLiveList, heap_words, end_of, size_at}
 use Rattle.summary.proofs.Lemmas.LiveWords.{live_apart, live_end-le}
 use Rattle.summary.proofs.Lemmas.Spans.{Apart}
 use Rattle.summary.specs.NewAddresses.{next_after, prefix_end}

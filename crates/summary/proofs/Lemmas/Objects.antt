@@ -2,7 +2,7 @@
 use Rattle.std.proofs.Common.{◌≡◌, ℕ, zero, suc, ◌+◌, ◌-◌, ◌/◌, ◌≤◌, ◌<◌, inl, inr, Bool, true, ◌&&◌, List, [], ◌∷◌, length, get_or, refl, sym, ◌∙◌, ap, arith, eqb}
 use Rattle.std.proofs.lemmas.Bool.{cases_Bool, cases_order, cond-true, cond-false, and_parts, and_from, eqb-true, eqb-false, eq-eqb, not-true}
 use Rattle.std.specs.Prelude.{find, Some, None, Option, option_map, unwrap_or}
-use Rattle.heap_image.specs.HeapImage.{HeapImage, HasLiveList, region_words, region_of, size_at}
+use Rattle.object_heap.specs.HeapImage.{HeapImage, HasLiveList, region_words, region_of, size_at}
 use Rattle.summary.specs.NewAddresses.{new_address}
 use Rattle.summary.specs.Compaction.{is_deferred}
 use Rattle.summary.specs.RegionData.{deferred}

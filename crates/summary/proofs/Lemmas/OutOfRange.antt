@@ -1,7 +1,7 @@
 -- Regions out of range, and places in a region.
 use Rattle.std.proofs.Common.{◌≡◌, ℕ, ◌+◌, ◌-◌, ◌*◌, ◌≤◌, ◌<◌, get_or, refl, ap, subst, arith}
 use Rattle.std.specs.Prelude.{Option, Some, None}
-use Rattle.heap_image.specs.HeapImage.{HeapImage, HasLiveList, IsValid, region_count, region_of, region_words, start_of}
+use Rattle.object_heap.specs.HeapImage.{HeapImage, HasLiveList, IsValid, region_count, region_of, region_words, start_of}
 use Rattle.summary.proofs.Lemmas.LiveWords.{live_end-le}
 use Rattle.summary.specs.NewAddresses.{new_address}
 use Rattle.summary.specs.Plan.{place_in}

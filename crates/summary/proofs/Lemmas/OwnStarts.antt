@@ -6,7 +6,7 @@ use Rattle.std.proofs.Math.Seq.{get_or-append_seam}
 use Rattle.std.proofs.lemmas.List.Folds.{list_any_at, Any-from_list_any}
 use Rattle.std.specs.Prelude.{count_by}
 use Rattle.std.specs.List.{range_with_len}
-use Rattle.heap_image.specs.HeapImage.{HeapImage, HasLiveList, heap_words, region_words, start_of, size_at, end_of, is_word_of, is_live_word, live_words}
+use Rattle.object_heap.specs.HeapImage.{HeapImage, HasLiveList, heap_words, region_words, start_of, size_at, end_of, is_word_of, is_live_word, live_words}
 use Rattle.summary.proofs.Lemmas.Spans.{is_in_parts, is_in_inside}
 use Rattle.mark_bitmap.specs.Marks.{is_begin}
 use Rattle.summary.specs.RegionData.{partial_words, own_words}

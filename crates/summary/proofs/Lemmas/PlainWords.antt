@@ -8,8 +8,8 @@ use Rattle.std.proofs.lemmas.List.Folds.{flat_map-map}
 use Rattle.std.proofs.lemmas.List.FromFn.{fill_by_all, length-map-range_with_len}
 use Rattle.std.specs.Prelude.{count_by, filter, fold, map, Some, None, Option, option_map}
 use Rattle.std.specs.List.{range_with_len, list_any}
-use Rattle.heap_image.specs.declared.version.Version.{Version}
-use Rattle.heap_image.specs.HeapImage.{HeapImage, HasLiveList, AreBlocks, versioned_image_of, region_words, heap_words, region_count, start_of, size_at, end_of, is_dead_word}
+use Rattle.object_heap.specs.declared.version.Version.{Version}
+use Rattle.object_heap.specs.HeapImage.{HeapImage, HasLiveList, AreBlocks, versioned_image_of, region_words, heap_words, region_count, start_of, size_at, end_of, is_dead_word}
 use Rattle.summary.proofs.Lemmas.LiveWords.{live_end-le}
 use Rattle.summary.specs.LiveObjects.{object_count, object_at}
 use Rattle.summary.specs.NewAddresses.{greatest, dead_words_below, is_allowed, prefix_end, new_address, new_end_of, new_live, next_after, next_at, new_top}

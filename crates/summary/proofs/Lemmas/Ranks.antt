@@ -10,7 +10,7 @@ use Rattle.std.proofs.lemmas.Nat.Bits.{bit_at-lt}
 use Rattle.std.proofs.lemmas.List.{get_or_default}
 use Rattle.std.proofs.lemmas.List.Folds.{Any-from_list_any}
 use Rattle.std.proofs.Math.Nat.{one-le-pow}
-use Rattle.heap_image.specs.HeapImage.{HeapImage, HasLiveList, heap_words, is_live_word, live_words, is_null_or_live}
+use Rattle.object_heap.specs.HeapImage.{HeapImage, HasLiveList, heap_words, is_live_word, live_words, is_null_or_live}
 use Rattle.summary.proofs.Lemmas.Spans.{count_by-cons}
 use Rattle.summary.specs.LiveObjects.{object_at}
 use Rattle.summary.specs.NewAddresses.{prefix_end, new_address}

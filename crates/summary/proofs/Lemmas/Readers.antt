@@ -6,7 +6,7 @@ use Rattle.std.proofs.lemmas.List.Folds.{list_any_at, Any-from_list_any}
 use Rattle.std.proofs.lemmas.List.FromFn.{get_or-range_with_len, length-range_with_len}
 use Rattle.std.specs.Prelude.{count_by, filter, map, not, Some, None, option_map}
 use Rattle.std.specs.List.{range_with_len, list_any}
-use Rattle.heap_image.specs.HeapImage.{HeapImage, HasLiveList, IsValid, heap_words, region_words, region_count, region_of, is_live_word, live_words, start_of}
+use Rattle.object_heap.specs.HeapImage.{HeapImage, HasLiveList, IsValid, heap_words, region_words, region_count, region_of, is_live_word, live_words, start_of}
 use Rattle.summary.proofs.Lemmas.Spans.{is_in, is_in_inside, is_in_parts, count_by-is_in}
 use Rattle.summary.specs.NewAddresses.{prefix_end, new_top}
 use Rattle.summary.specs.WordMoves.{slid, origin, reads, is_to_fill, word_moves}

@@ -7,7 +7,7 @@ use Rattle.std.proofs.lemmas.List.Folds.{Any-from_list_any, list_any-from_Any}
 use Rattle.std.proofs.lemmas.List.FromFn.{get_or-map-range_with_len}
 use Rattle.std.specs.Prelude.{count_by}
 use Rattle.std.specs.List.{range_with_len, list_any}
-use Rattle.heap_image.specs.HeapImage.{HeapImage, HasLiveList, region_words, size_at, end_of, is_word_of, is_live_word, live_words, start_of, region_of, region_count}
+use Rattle.object_heap.specs.HeapImage.{HeapImage, HasLiveList, region_words, size_at, end_of, is_word_of, is_live_word, live_words, start_of, region_of, region_count}
 use Rattle.summary.proofs.Lemmas.Spans.{count_by-cons, count_by-or, is_in_parts}
 use Rattle.summary.specs.NewAddresses.{prefix_end}
 use Rattle.summary.specs.WordMoves.{slid}

@@ -2,9 +2,9 @@
 use Rattle.std.proofs.Common.{◌≡◌, refl, ℕ, [], ◌∷◌, ◌++◌, take}
 use Rattle.std.specs.Prelude.{slice_index, Some, None, map, filter, codes}
 use Rattle.std.specs.List.{range_with_len}
-use Rattle.heap_image.specs.Header.{object_header, filler_header}
-use Rattle.heap_image.specs.HeapImage.{HeapImage}
-use Rattle.heap_image.specs.declared.version.Version.TheVariants.{One}
+use Rattle.object_heap.specs.Header.{object_header, filler_header}
+use Rattle.object_heap.specs.HeapImage.{HeapImage}
+use Rattle.object_heap.specs.declared.version.Version.TheVariants.{One}
 use Rattle.summary.specs.NewAddresses.{prefix_end, new_top}
 use Rattle.summary.specs.WordMoves.{word_moves, reads}
 use Rattle.summary.specs.Compaction.{compact, moved}

@@ -3,12 +3,12 @@ use Rattle.std.proofs.Common.{◌≡◌, ℕ, ◌+◌, ◌-◌, ◌≤◌, ◌<�
 use Rattle.std.proofs.lemmas.Bool.{cases_lt, cases_order, cond-true, cond-false, lt-ltb, le-ltb, false_from_ne_true}
 use Rattle.std.specs.Prelude.{map, not, slice_range, Some, replicate}
 use Rattle.std.specs.List.{range_with_len}
-use Rattle.heap_image.specs.HeapImage.{HeapImage, HasLiveList, heap_words, word_at, size_at, end_of, region_words, region_of, start_of, is_live_word, live_words}
+use Rattle.object_heap.specs.HeapImage.{HeapImage, HasLiveList, heap_words, word_at, size_at, end_of, region_words, region_of, start_of, is_live_word, live_words}
 use Rattle.summary.specs.NewAddresses.{prefix_end, new_address, new_top}
 use Rattle.summary.specs.WordMoves.{slid, origin}
 use Rattle.summary.specs.RegionData.{destination, data_words}
 use Rattle.summary.specs.Compaction.{compact, compacted_word, moved, moved_word, written, carried, redirected, is_reference_of, is_deferred, object_image}
-use Rattle.heap_image.specs.Header.{filler_header}
+use Rattle.object_heap.specs.Header.{filler_header}
 use Rattle.summary.specs.Fillers.{IsDeadRun, filler_word}
 use Rattle.summary.proofs.Lemmas.Addresses.{prefix_end-le}
 use Rattle.summary.proofs.Lemmas.Fillers.{filler-first, filler-rest, run_inside, compacted-dead, moved-dead}

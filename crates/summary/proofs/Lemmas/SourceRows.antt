@@ -4,7 +4,7 @@ use Rattle.std.proofs.lemmas.Bool.{cases_Bool, cases_lt, cases_order, and_parts,
 use Rattle.std.proofs.lemmas.List.FromFn.{length-map-range_with_len}
 use Rattle.std.specs.Prelude.{filter, Some, None, unwrap_or, max, min}
 use Rattle.std.specs.List.{range_with_len}
-use Rattle.heap_image.specs.HeapImage.{HeapImage, IsValid, HasLiveList, region_words, region_count, start_of}
+use Rattle.object_heap.specs.HeapImage.{HeapImage, IsValid, HasLiveList, region_words, region_count, start_of}
 use Rattle.summary.specs.NewAddresses.{prefix_end, new_top}
 use Rattle.summary.specs.WordMoves.{reads}
 use Rattle.summary.specs.RegionData.{region_data, data_words, destination, source}

@@ -9,7 +9,7 @@ use Rattle.std.proofs.lemmas.List.FromFn.{length-range_with_len}
 use Rattle.std.proofs.lemmas.List.Sums.{sum_by-cons}
 use Rattle.std.specs.Prelude.{count_by, filter, not, sum_by, Some, None, option_map, unwrap_or}
 use Rattle.std.specs.List.{range_with_len, list_any}
-use Rattle.heap_image.specs.HeapImage.{HeapImage, HasLiveList, IsValid, heap_words, region_words, region_count, region_of, start_of, size_at, end_of, is_word_of, is_live_word, live_words}
+use Rattle.object_heap.specs.HeapImage.{HeapImage, HasLiveList, IsValid, heap_words, region_words, region_count, region_of, start_of, size_at, end_of, is_word_of, is_live_word, live_words}
 use Rattle.summary.proofs.Lemmas.Spans.{Apart, Apart-filter, in_any, held, count_by-in_any, count_by-cons, is_in, is_in_parts, count_by-is_in}
 use Rattle.summary.proofs.Lemmas.LiveWords.{live_apart}
 use Rattle.summary.specs.NewAddresses.{prefix_end, new_top, dead_words_below}

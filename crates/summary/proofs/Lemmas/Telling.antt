@@ -8,7 +8,7 @@ use Rattle.std.proofs.lemmas.List.FromFn.{fill_by_all, get_or-map-range_with_len
 use Rattle.std.specs.Int.{div_ceil}
 use Rattle.std.specs.List.{range_with_len}
 use Rattle.std.specs.Prelude.{map, Option, Some, None}
-use Rattle.heap_image.specs.HeapImage.{HeapImage, IsValid, region_words, region_count, start_of, heap_words}
+use Rattle.object_heap.specs.HeapImage.{HeapImage, IsValid, region_words, region_count, start_of, heap_words}
 use Rattle.summary.specs.NewAddresses.{prefix_end}
 use Rattle.summary.specs.RegionData.{data_words, destination, source, region_data}
 use Rattle.summary.specs.Layout.{placed_region}

@@ -5,8 +5,8 @@ use Rattle.std.proofs.lemmas.List.{get_or_default}
 use Rattle.std.proofs.lemmas.List.Folds.{list_any_at, Any-from_list_any}
 use Rattle.std.specs.Prelude.{map, not, Some, None, Option}
 use Rattle.std.specs.List.{range_with_len, list_any}
-use Rattle.heap_image.specs.HeapImage.{HeapImage, HasLiveList, heap_words, word_at, size_at, references_at, end_of, is_live_word, region_of}
-use Rattle.heap_image.specs.Header.{references_of}
+use Rattle.object_heap.specs.HeapImage.{HeapImage, HasLiveList, heap_words, word_at, size_at, references_at, end_of, is_live_word, region_of}
+use Rattle.object_heap.specs.Header.{references_of}
 use Rattle.summary.specs.NewAddresses.{new_address, new_top}
 use Rattle.summary.specs.WordMoves.{slid, origin}
 use Rattle.summary.specs.Fillers.{filler_word}

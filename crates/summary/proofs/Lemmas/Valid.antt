@@ -1,6 +1,6 @@
 -- The compacted image has a live list again.
 use Rattle.std.proofs.Common.{◌≡◌, ℕ, zero, suc, ◌+◌, ◌-◌, ◌^◌, ◌%◌, ◌/◌, ◌≤◌, ◌<◌, inl, inr, true, false, ◌&&◌, ◌||◌, List, [], ◌∷◌, length, get_or, refl, sym, ◌∙◌, ap, subst, arith, ltb, leb, eqb, add-zero}
-use Rattle.heap_image.specs.Header.{references_of, filler_header}
+use Rattle.object_heap.specs.Header.{references_of, filler_header}
 use Rattle.std.proofs.lemmas.Bool.{false≢true, cases_lt, cases_Bool, and_left, and_right, and_from, lt-leb, le-leb, le-ltb, lt-ltb, cond-true, cond-false, or_right, or_cases, eqb-true, eq-eqb, and_parts, ltb-true, leb-true, cond_both}
 use Rattle.std.proofs.lemmas.List.{get_or-map, length-map, get_or_default, get_or_past}
 use Rattle.std.proofs.lemmas.List.Elements.{All-from_get_or, All-map}
@@ -8,10 +8,10 @@ use Rattle.std.proofs.lemmas.List.Folds.{list_any_none, list_any_at, Any-from_li
 use Rattle.std.proofs.lemmas.List.FromFn.{length-range_with_len}
 use Rattle.std.proofs.lemmas.List.Sums.{count_by-le-length, prefix_len-le-length}
 use Rattle.std.specs.Prelude.{IsTrue, IfSome, Option, Some, None, map, option_map}
-use Rattle.heap_image.specs.Version.{max_regions, max_words}
+use Rattle.object_heap.specs.Version.{max_regions, max_words}
 use Rattle.std.specs.List.{range_with_len, list_any}
 use Rattle.std.specs.Option.{is_some}
-use Rattle.heap_image.specs.HeapImage.{HeapImage, AreRoots, IsValid, region_words, is_dead_word, HasLiveList, HasSoundHeader, heap_words, word_at, size_at, references_at, end_of, reference_at, is_word_of, is_live_word, is_null_or_live, live_words}
+use Rattle.object_heap.specs.HeapImage.{HeapImage, AreRoots, IsValid, region_words, is_dead_word, HasLiveList, HasSoundHeader, heap_words, word_at, size_at, references_at, end_of, reference_at, is_word_of, is_live_word, is_null_or_live, live_words}
 use Rattle.summary.proofs.Lemmas.Spans.{is_in_inside}
 use Rattle.summary.proofs.Lemmas.LiveWords.{live_apart, live_end-le}
 use Rattle.summary.specs.NewAddresses.{prefix_end, new_address, new_top}

@@ -7,7 +7,7 @@ use Rattle.std.proofs.lemmas.List.FromFn.{length-range_with_len}
 use Rattle.std.proofs.lemmas.List.Sums.{count_by-le-length}
 use Rattle.std.specs.Prelude.{count_by, Some, None, Option}
 use Rattle.std.specs.List.{range_with_len}
-use Rattle.heap_image.specs.HeapImage.{HeapImage, HasLiveList, heap_words, size_at, end_of, is_word_of, is_live_word, live_words}
+use Rattle.object_heap.specs.HeapImage.{HeapImage, HasLiveList, heap_words, size_at, end_of, is_word_of, is_live_word, live_words}
 use Rattle.summary.proofs.Lemmas.Spans.{count_by-cons, is_in_parts, is_in_inside}
 use Rattle.summary.proofs.Lemmas.LiveWords.{live_apart, live_end-le}
 use Rattle.summary.specs.NewAddresses.{prefix_end, new_top}

@@ -2,7 +2,7 @@
 
 ghost use Rattle.std.specs.Prelude.{◌≡◌, ◌+◌, ◌-◌, ◌<◌, ◌≤◌, ◌&&◌, true, ℕ, List, All, Option, slice_range, replicate, map, flat_map, cond, Bool};
 ghost use Rattle.std.specs.List.{range_with_len};
-ghost use Rattle.heap_image.specs.HeapImage.{HeapImage, IsValid, HasLiveList, heap_words, region_count, start_of, word_at, block_of, references_at, end_of, reference_at, is_live_word, reachable};
+ghost use Rattle.object_heap.specs.HeapImage.{HeapImage, IsValid, HasLiveList, heap_words, region_count, start_of, word_at, block_of, references_at, end_of, reference_at, is_live_word, reachable};
 ghost use Rattle.summary.specs.LiveObjects.{object_count, object_at};
 ghost use Rattle.summary.specs.NewAddresses.{new_address, new_end_of, new_top, prefix_end};
 ghost use Rattle.summary.specs.WordMoves.{slid};

@@ -2,8 +2,8 @@
 
 ghost use Rattle.std.specs.Prelude.{◌≡◌, ◌+◌, ◌<◌, ◌≤◌, true, false, Some, None, not, ℕ, slice_range, map, cond};
 ghost use Rattle.std.specs.List.{range_with_len};
-ghost use Rattle.heap_image.specs.Header.{references_of};
-ghost use Rattle.heap_image.specs.HeapImage.{HeapImage, HasLiveList, heap_words, region_of, word_at, size_at, references_at, end_of};
+ghost use Rattle.object_heap.specs.Header.{references_of};
+ghost use Rattle.object_heap.specs.HeapImage.{HeapImage, HasLiveList, heap_words, region_of, word_at, size_at, references_at, end_of};
 ghost use Rattle.summary.specs.LiveObjects.{object_count, object_at};
 ghost use Rattle.summary.specs.NewAddresses.{new_address, new_end_of, new_top};
 ghost use Rattle.summary.specs.Compaction.{redirected, object_image, is_deferred, carried, moved_word, compacted_word, moved, compact};

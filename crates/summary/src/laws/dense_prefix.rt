@@ -1,8 +1,8 @@
 //! The dense prefix: its end, its dead words and its fillers.
 
 ghost use Rattle.std.specs.Prelude.{◌≡◌, ◌+◌, ◌-◌, ◌<◌, ◌≤◌, ◌∷◌, false, ℕ, slice_range, replicate};
-ghost use Rattle.heap_image.specs.Header.{filler_header};
-ghost use Rattle.heap_image.specs.HeapImage.{HeapImage, HasLiveList, region_words, start_of, is_live_word, live_words};
+ghost use Rattle.object_heap.specs.Header.{filler_header};
+ghost use Rattle.object_heap.specs.HeapImage.{HeapImage, HasLiveList, region_words, start_of, is_live_word, live_words};
 ghost use Rattle.summary.specs.NewAddresses.{dead_words_below, prefix_end, IsPrefixEnd};
 ghost use Rattle.summary.specs.Fillers.{filler_word, IsDeadRun};
 ghost use Rattle.summary.specs.Compaction.{moved_word, compacted_word, moved, compact};

@@ -2,7 +2,7 @@
 
 ghost use Rattle.std.specs.Prelude.{◌≡◌, ◌+◌, ◌-◌, ◌*◌, ◌/◌, ◌<◌, ◌≤◌, true, false, ℕ, map, sum};
 ghost use Rattle.std.specs.List.{range_with_len};
-ghost use Rattle.heap_image.specs.HeapImage.{HeapImage, HasLiveList, heap_words, end_of, is_live_word, live_words};
+ghost use Rattle.object_heap.specs.HeapImage.{HeapImage, HasLiveList, heap_words, end_of, is_live_word, live_words};
 ghost use Rattle.summary.specs.LiveObjects.{object_count, object_at};
 
 /// A live word belongs to one object. Objects of the live list are in order and don't overlap.

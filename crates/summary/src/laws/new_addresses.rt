@@ -2,7 +2,7 @@
 
 ghost use Rattle.std.specs.Prelude.{◌≡◌, ◌+◌, ◌<◌, ◌≤◌, ℕ, IsTrue, count_by};
 ghost use Rattle.std.specs.List.{range_with_len};
-ghost use Rattle.heap_image.specs.HeapImage.{HeapImage, HasLiveList, heap_words, region_of, start_of, size_at, live_words, is_null_or_live};
+ghost use Rattle.object_heap.specs.HeapImage.{HeapImage, HasLiveList, heap_words, region_of, start_of, size_at, live_words, is_null_or_live};
 ghost use Rattle.summary.specs.LiveObjects.{object_count, object_at};
 ghost use Rattle.summary.specs.NewAddresses.{prefix_end, new_address, new_end_of, new_top};
 ghost use Rattle.summary.specs.WordMoves.{slid};

@@ -1,5 +1,5 @@
 //! Laws of plans.
-ghost use Rattle.heap_image.specs.HeapImage.{IsValid};
+ghost use Rattle.object_heap.specs.HeapImage.{IsValid};
 
 use crate::plan::Plan;
 

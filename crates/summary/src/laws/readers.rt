@@ -1,7 +1,7 @@
 //! Which regions read which.
 
 ghost use Rattle.std.specs.Prelude.{◌≡◌, ◌+◌, ◌<◌, ◌≤◌, true, Some, ℕ};
-ghost use Rattle.heap_image.specs.HeapImage.{HeapImage, IsValid, HasLiveList, region_words, region_count, region_of, start_of, is_live_word};
+ghost use Rattle.object_heap.specs.HeapImage.{HeapImage, IsValid, HasLiveList, region_words, region_count, region_of, start_of, is_live_word};
 ghost use Rattle.summary.specs.NewAddresses.{prefix_end};
 ghost use Rattle.summary.specs.WordMoves.{reads, is_to_fill, slid};
 ghost use Rattle.summary.specs.RegionData.{data_words, destination, reader_count, source, first_target, last_target, readers_by_destination};

@@ -1,7 +1,7 @@
 //! The data of a region, its destination and its source.
 
 ghost use Rattle.std.specs.Prelude.{◌≡◌, ◌+◌, ◌-◌, ◌<◌, ◌≤◌, ◌==◌, true, Some, ℕ, sum_by, cond, min, nat_lt};
-ghost use Rattle.heap_image.specs.HeapImage.{HeapImage, IsValid, HasLiveList, region_words, heap_words, region_count, region_of, start_of, end_of, is_live_word, live_words};
+ghost use Rattle.object_heap.specs.HeapImage.{HeapImage, IsValid, HasLiveList, region_words, heap_words, region_count, region_of, start_of, end_of, is_live_word, live_words};
 ghost use Rattle.summary.specs.LiveObjects.{object_count, object_at};
 ghost use Rattle.summary.specs.NewAddresses.{prefix_end, new_top};
 ghost use Rattle.summary.specs.WordMoves.{is_to_fill, slid};

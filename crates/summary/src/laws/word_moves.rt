@@ -2,7 +2,7 @@
 
 ghost use Rattle.std.specs.Prelude.{◌≡◌, ◌+◌, ◌<◌, ◌≤◌, true, false, Some, None, ℕ, map, filter};
 ghost use Rattle.std.specs.List.{range_with_len};
-ghost use Rattle.heap_image.specs.HeapImage.{HeapImage, HasLiveList, heap_words, region_of, start_of, is_live_word, live_words};
+ghost use Rattle.object_heap.specs.HeapImage.{HeapImage, HasLiveList, heap_words, region_of, start_of, is_live_word, live_words};
 ghost use Rattle.summary.specs.NewAddresses.{prefix_end, new_top};
 ghost use Rattle.summary.specs.WordMoves.{word_moves, origin, reads, slid};
 ghost use Rattle.summary.specs.RegionData.{data_words, destination};

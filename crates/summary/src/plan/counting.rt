@@ -1,7 +1,7 @@
 //! The counts of the regions: the live words of each, by where their objects begin.
 
 ghost use Rattle.std.specs.Prelude.{◌≡◌, ℕ, ◌<◌, ◌≤◌, false, IsTrue, IfOk};
-ghost use Rattle.heap_image.specs.HeapImage.{heap_words, region_count};
+ghost use Rattle.object_heap.specs.HeapImage.{heap_words, region_count};
 ghost use Rattle.mark_bitmap.specs.Marks.{is_begin};
 ghost use Rattle.summary.specs.Layout.{region_counts, AreRegionCounts, IsOwnStart, AreOwnStarts};
 

@@ -2,7 +2,7 @@
 
 ghost use Rattle.std.specs.Prelude.{◌≡◌, ℕ, ◌+◌, ◌<◌, ◌≤◌, nat_lt, IfOk};
 ghost use Rattle.std.specs.List.{prefix_len};
-ghost use Rattle.heap_image.specs.HeapImage.{heap_words, region_words, region_count, start_of};
+ghost use Rattle.object_heap.specs.HeapImage.{heap_words, region_words, region_count, start_of};
 ghost use Rattle.summary.specs.LiveObjects.{object_count, object_at, ArePlacedBelow};
 ghost use Rattle.summary.specs.NewAddresses.{new_address};
 ghost use Rattle.summary.specs.RegionData.{deferred};

@@ -1,7 +1,7 @@
 //! `Layout`: where the words of each region go, from the counts of its live words.
 
 ghost use Rattle.std.specs.Prelude.{◌≡◌, ◌+◌, ◌^◌, ◌<◌, ◌≤◌, IfOk};
-ghost use Rattle.heap_image.specs.HeapImage.{IsValid, heap_words, region_count, start_of, last_end};
+ghost use Rattle.object_heap.specs.HeapImage.{IsValid, heap_words, region_count, start_of, last_end};
 ghost use Rattle.summary.specs.NewAddresses.{prefix_end};
 ghost use Rattle.summary.specs.RegionData.{destination, readers_from};
 ghost use Rattle.summary.specs.Layout.{region_counts, placed_region, AreRegionCounts, IsLayout};

@@ -1,7 +1,7 @@
 //! `Redirections`: the new value of each reference, by one count of live words.
 
 ghost use Rattle.std.specs.Prelude.{◌≡◌, ◌≤◌, map, All, IfOk, IsTrue, Contains};
-ghost use Rattle.heap_image.specs.HeapImage.{heap_words, is_null_or_live};
+ghost use Rattle.object_heap.specs.HeapImage.{heap_words, is_null_or_live};
 ghost use Rattle.summary.specs.NewAddresses.{prefix_end, new_address};
 ghost use Rattle.summary.specs.Compaction.{redirected};
 ghost use Rattle.summary.specs.Redirections.{counted_below};
@@ -38,7 +38,7 @@ impl Drop for Redirections {
 
 impl Model for Redirections {
     ghost use Rattle.std.specs.Arc.{arc_value};
-    ghost use Rattle.heap_image.specs.HeapImage.{HeapImage};
+    ghost use Rattle.object_heap.specs.HeapImage.{HeapImage};
     ghost use Rattle.summary.specs.Redirections.{AreRedirections};
 
     ghost Value = { HeapImage };

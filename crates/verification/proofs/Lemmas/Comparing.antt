@@ -2,8 +2,8 @@
 use Rattle.std.proofs.Common.{◌≡◌, ℕ, zero, suc, ◌+◌, ◌-◌, ◌≤◌, ◌<◌, ◌≢◌, List, ◌∷◌, length, get_or, refl, sym, ◌∙◌, ap, subst, arith}
 use Rattle.std.specs.Prelude.{slice_range, replicate, Contains}
 use Rattle.std.proofs.lemmas.List.Elements.{All-contains}
-use Rattle.heap_image.specs.Header.{filler_header}
-use Rattle.heap_image.specs.HeapImage.{HeapImage, IsValid, HasSoundHeader, heap_words, word_at, size_at, references_at}
+use Rattle.object_heap.specs.Header.{filler_header}
+use Rattle.object_heap.specs.HeapImage.{HeapImage, IsValid, HasSoundHeader, heap_words, word_at, size_at, references_at}
 use Rattle.summary.specs.LiveObjects.{object_count, object_at}
 use Rattle.summary.specs.NewAddresses.{new_address, new_top}
 use Rattle.summary.specs.Compaction.{compacted_word, compact}

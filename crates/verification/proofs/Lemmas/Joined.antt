@@ -2,7 +2,7 @@
 use Rattle.std.proofs.Common.{◌≡◌, ℕ, ◌+◌, ◌-◌, ◌≤◌, ◌<◌, ◌≢◌, inl, inr, sym, ◌∙◌, subst, arith}
 use Rattle.std.specs.Prelude.{Option, Some, None, MatchOption}
 use Rattle.std.proofs.lemmas.Bool.{cases_lt}
-use Rattle.heap_image.specs.HeapImage.{HeapImage, word_at}
+use Rattle.object_heap.specs.HeapImage.{HeapImage, word_at}
 use Rattle.summary.specs.Compaction.{compact}
 use Rattle.verification.specs.Difference.{AreAlike, IsLeastDifference}
 use Rattle.verification.specs.Compared.{AreCompacted, IsFirstOther}

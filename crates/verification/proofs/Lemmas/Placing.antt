@@ -4,11 +4,11 @@ use Rattle.std.specs.Prelude.{slice_range, fold, replicate, nat_lt, nat_le, ifâ—
 use Rattle.std.proofs.lemmas.Bool.{cases_Bool, cond-true, cond-false, lt-ltb, le-ltb, le-leb, ltb-true, leb-true, and_from, and_parts, false_from_ne_true}
 use Rattle.std.proofs.lemmas.List.{get_or-drop, get_or-take, get_or-replicate}
 use Rattle.std.proofs.lemmas.List.FromFn.{get_or-map-range_with_len}
-use Rattle.heap_image.specs.HeapImage.{HeapImage, heap_words, word_at, size_at, references_at, end_of, is_live_word, live_words}
+use Rattle.object_heap.specs.HeapImage.{HeapImage, heap_words, word_at, size_at, references_at, end_of, is_live_word, live_words}
 use Rattle.summary.specs.LiveObjects.{object_count, object_at}
 use Rattle.summary.specs.NewAddresses.{prefix_end, new_address, new_end_of, new_top, next_at}
 use Rattle.summary.specs.WordMoves.{slid}
-use Rattle.heap_image.specs.Header.{filler_header}
+use Rattle.object_heap.specs.Header.{filler_header}
 use Rattle.summary.specs.Compaction.{is_reference_of, redirected, compacted_word, compact}
 use Rattle.verification.specs.Compared.{IsGap, IsPlaced, AreKnown, behind}
 use Rattle.verification.proofs.Lemmas.Joined.{AreWanted}

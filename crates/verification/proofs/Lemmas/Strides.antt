@@ -1,6 +1,6 @@
 -- A gap, cut into fillers.
 use Rattle.std.proofs.Common.{◌≡◌, ℕ, ◌+◌, ◌-◌, ◌*◌, ◌/◌, ◌%◌, ◌≤◌, ◌<◌, min, true, sym, ap, subst, arith}
-use Rattle.heap_image.specs.HeapImage.{HeapImage, is_live_word}
+use Rattle.object_heap.specs.HeapImage.{HeapImage, is_live_word}
 use Rattle.summary.specs.NewAddresses.{prefix_end}
 use Rattle.summary.specs.Fillers.{IsDeadRun, filler_limit}
 use Rattle.verification.specs.Compared.{IsGap}

@@ -4,7 +4,7 @@ use Rattle.std.specs.Prelude.{Option, None, Some, map, option_map}
 use Rattle.std.specs.Option.{is_some}
 use Rattle.std.proofs.lemmas.Bool.{true≢false}
 use Rattle.std.proofs.lemmas.List.{get_or-map, length-map, ext_get_or}
-use Rattle.heap_image.specs.HeapImage.{HeapImage, heap_words, word_at, roots_or, roots_of}
+use Rattle.object_heap.specs.HeapImage.{HeapImage, heap_words, word_at, roots_or, roots_of}
 use Rattle.summary.specs.LiveObjects.{object_count, object_at}
 use Rattle.summary.specs.NewAddresses.{new_address, new_live}
 use Rattle.summary.specs.Compaction.{redirected, compact}

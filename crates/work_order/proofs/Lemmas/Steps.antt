@@ -8,7 +8,7 @@ use Rattle.std.proofs.Math.Nat.{one-le-pow}
 use Rattle.std.proofs.lemmas.List.{get_or_past}
 use Rattle.std.proofs.lemmas.List.Sums.{sum_by-cons}
 use Rattle.std.proofs.Math.Nat.{eq-or-lt_of_le, le-max_left, le-max_right, max-eq_left, max-eq_right, min-eq_left, min-eq_right}
-use Rattle.heap_image.specs.HeapImage.{HeapImage, region_words}
+use Rattle.object_heap.specs.HeapImage.{HeapImage, region_words}
 use Rattle.summary.specs.NewAddresses.{new_top}
 use Rattle.summary.specs.WordMoves.{is_to_fill, reads}
 use Rattle.work_order.specs.Chains.{AreLongest, IsAwaited, IsChain, IsLongestAfter, IsLongestChain, IsLongestFrom, fill_words, waits_for, words_of}

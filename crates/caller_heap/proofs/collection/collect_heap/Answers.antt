@@ -1,5 +1,5 @@
 use Rattle.std.proofs.Common.{length, sym, ap, ◌∙◌}
-use Rattle.heap_image.specs.HeapImage.{HeapImage, heap_words}
+use Rattle.object_heap.specs.HeapImage.{HeapImage, heap_words}
 use Rattle.heap_image.specs.ImageText.{with_tail}
 use Rattle.caller_heap.proofs.Lemmas.Compacted.{compact-words, compact-tail}
 use Rattle.caller_heap.proofs.collection.collect_heap.Goals as goal

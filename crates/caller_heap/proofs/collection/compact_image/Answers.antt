@@ -1,7 +1,7 @@
 use Rattle.std.proofs.Common.{◌≡◌, ◌⊎◌, sym, ap, subst, inl, inr, Err}
-use Rattle.heap_image.specs.HeapImage.{HeapImage}
-use Rattle.heap_image.specs.declared.fault.Fault.{Fault}
-use Rattle.heap_image.specs.declared.fault.Fault.TheVariants.{Memory, Gate}
+use Rattle.object_heap.specs.HeapImage.{HeapImage}
+use Rattle.image_streams.specs.declared.fault.Fault.{Fault}
+use Rattle.image_streams.specs.declared.fault.Fault.TheVariants.{Memory, Gate}
 use Rattle.fill.specs.FillFaults.{IsOverwritten}
 use Rattle.collector.specs.declared.outcome.Refusal.{Refusal}
 use Rattle.collector.specs.declared.outcome.Refusal.TheVariants.{Kept, Lost}

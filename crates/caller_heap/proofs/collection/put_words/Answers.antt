@@ -2,7 +2,7 @@ use Rattle.std.proofs.Common.{◌≡◌, ℕ, ◌+◌, ◌-◌, ◌*◌, ◌<◌
 use Rattle.std.proofs.Math.Seq.{take-add}
 use Rattle.std.proofs.lemmas.Slice.{take-put_mid}
 use borrow.Rule.Slice.PartMut.{put_mid}
-use Rattle.heap_image.specs.HeapImage.{HeapImage, IsValid, heap_words, region_count, region_words}
+use Rattle.object_heap.specs.HeapImage.{HeapImage, IsValid, heap_words, region_count, region_words}
 use Rattle.caller_heap.proofs.Lemmas.Regions.{region_fits, region_long}
 use Rattle.caller_heap.proofs.collection.put_words.Goals as goal
 

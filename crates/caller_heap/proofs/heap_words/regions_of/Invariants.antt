@@ -1,6 +1,6 @@
 use Rattle.std.proofs.Common.{◌≡◌, ◌+◌, ◌*◌, ◌^◌, ◌++◌, length}
 use Rattle.std.specs.List.{concat}
-use Rattle.heap_image.specs.HeapImage.{AreBlocks}
+use Rattle.object_heap.specs.HeapImage.{AreBlocks}
 use Rattle.caller_heap.proofs.heap_words.regions_of.Given as goal
 
 -- the regions so far have the words before the rest

@@ -1,7 +1,7 @@
 use Rattle.std.proofs.Common.{◌≡◌, ◌≤◌, take, drop, length, vec_len}
 use Rattle.std.specs.Prelude.{All, map}
 use Rattle.std.specs.Vec.{vec_capacity}
-use Rattle.heap_image.specs.HeapImage.{AreBlocks}
+use Rattle.object_heap.specs.HeapImage.{AreBlocks}
 use Rattle.caller_heap.specs.Lent.{IsHeld, IsGone, words_in}
 use Rattle.caller_heap.proofs.lending.lend_each.Given as goal
 

@@ -1,11 +1,11 @@
 use Rattle.std.proofs.Common.{◌≡◌, ◌⊎◌, ℕ, ◌≤◌, Some, List, length, map, vec_len, refl, sym, ◌∙◌, ap, inl, arith}
 use Rattle.std.proofs.lemmas.List.{length-map}
 use Rattle.std.proofs.lemmas.List.Elements.{All-take}
-use Rattle.heap_image.specs.HeapImage.{HeapImage, image_of}
+use Rattle.object_heap.specs.HeapImage.{HeapImage, image_of}
 use Rattle.heap_image.specs.ImageText.{first_fault, from_tail, listed_text, with_tail}
-use Rattle.heap_image.specs.declared.fault.Fault.TheVariants.{Memory}
+use Rattle.image_streams.specs.declared.fault.Fault.TheVariants.{Memory}
 use Rattle.heap_image.specs.declared.from_regions.RefusedRegions.{RefusedRegions}
-use Rattle.heap_image.specs.declared.version.Version.{Version}
+use Rattle.object_heap.specs.declared.version.Version.{Version}
 use Rattle.caller_heap.specs.declared.settings.HeapSettings.{HeapSettings}
 use Rattle.caller_heap.specs.Lent.{IsGone, held, words_in, blocks_of}
 use Rattle.caller_heap.proofs.Lemmas.Compacted.{compact-tail}

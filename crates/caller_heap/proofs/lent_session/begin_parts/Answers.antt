@@ -1,8 +1,8 @@
 use Rattle.std.proofs.Common.{◌≡◌, ◌⊎◌, Some, length, map, vec_len, sym, ◌∙◌, ap, inl, inr, arith}
 use Rattle.heap_image.specs.ImageText.{first_fault, listed_text}
 use Rattle.heap_image.specs.Unchecked.{numbers_in}
-use Rattle.heap_image.specs.declared.fault.Fault.{Fault}
-use Rattle.heap_image.specs.declared.fault.Fault.TheVariants.{Memory, Workers}
+use Rattle.image_streams.specs.declared.fault.Fault.{Fault}
+use Rattle.image_streams.specs.declared.fault.Fault.TheVariants.{Memory, Workers}
 use Rattle.heap_image.specs.declared.from_regions.UncheckedParts.{UncheckedParts}
 use Rattle.heap_image.specs.declared.from_regions.RefusedRegions.{RefusedRegions}
 use Rattle.fill.specs.FillFaults.{IsOverwritten}

@@ -1,7 +1,7 @@
 use Rattle.std.proofs.Common.{◌≡◌, ℕ, ◌≤◌, length, map, vec_len, sym, ◌∙◌, ap, arith}
 use Rattle.std.proofs.lemmas.List.Elements.{All-take}
 use Rattle.std.proofs.lemmas.List.FromFn.{length-map-range_with_len}
-use Rattle.heap_image.specs.HeapImage.{HeapImage, region_count, block_of}
+use Rattle.object_heap.specs.HeapImage.{HeapImage, region_count, block_of}
 use Rattle.heap_image.specs.ImageText.{with_tail}
 use Rattle.summary.specs.Compaction.{compact}
 use Rattle.collector.specs.Sessions.{image_of}

@@ -3,7 +3,7 @@ use Rattle.std.proofs.lemmas.List.{length-map}
 use Rattle.std.proofs.lemmas.Result.{IfErr-weaker, IfOk-weaker, err_from_is_err_and}
 use Rattle.heap_image.specs.ImageText.{listed_text}
 use Rattle.heap_image.specs.Unchecked.{numbers_in}
-use Rattle.heap_image.specs.declared.version.Version.TheVariants.{One}
+use Rattle.object_heap.specs.declared.version.Version.TheVariants.{One}
 use Rattle.caller_heap.specs.HeapWords.{heap_bytes}
 use Rattle.caller_heap.specs.Lent.{words_in, heap_in, image_in}
 use Rattle.caller_heap.proofs.Lemmas.LentHeap.{all_held_again, why_not_begun, why_not_lent}

@@ -1,6 +1,7 @@
 use Rattle.std.proofs.Common.{◌≡◌, ◌⊎◌, ◌++◌, ◌<◌, ◌^◌, List, ℕ, Some, length, ap, subst, arith, rules}
-use Rattle.heap_image.specs.declared.fault.Fault.TheVariants.{Memory}
-use Rattle.heap_image.specs.ImageText.{first_fault, numbers, text}
+use Rattle.image_streams.specs.declared.fault.Fault.TheVariants.{Memory}
+use Rattle.heap_image.specs.ImageText.{first_fault, text}
+use Rattle.image_streams.specs.Numbers.{numbers}
 use Rattle.caller_heap.specs.HeapWords.{heap_bytes}
 use Rattle.caller_heap.proofs.Lemmas.HeapBytes.{version_of_bytes, words_of_bytes, tail_of_bytes}
 use Rattle.caller_heap.proofs.reading.image_of_heap.Goals as goal

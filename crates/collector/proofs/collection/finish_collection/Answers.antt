@@ -1,5 +1,5 @@
 use Rattle.std.proofs.Common.{sym, subst}
-use Rattle.heap_image.specs.HeapImage.{HeapImage}
+use Rattle.object_heap.specs.HeapImage.{HeapImage}
 use Rattle.scheduler.specs.ImageMoves.{image_table}
 use Rattle.scheduler.specs.MoveTable.{IsMoveTable}
 use Rattle.scheduler.specs.Whole.{HasEachOnce}

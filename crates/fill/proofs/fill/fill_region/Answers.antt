@@ -1,5 +1,5 @@
 use Rattle.std.proofs.Common.{ap, ◌∙◌, arith}
-use Rattle.heap_image.specs.HeapImage.{region_count}
+use Rattle.object_heap.specs.HeapImage.{region_count}
 use Rattle.fill.proofs.Lemmas.Draining.{filled_here}
 use Rattle.fill.proofs.fill.fill_region.Goals as goal
 

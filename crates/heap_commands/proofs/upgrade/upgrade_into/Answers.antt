@@ -2,13 +2,13 @@ use Rattle.std.proofs.Common.{◌≡◌, ◌≤◌, ◌∙◌, ap, length, subst
 use Rattle.std.proofs.lemmas.Result.{err_from_is_err_and}
 use Rattle.std.specs.Prelude.{◌++◌, codes, decimal, IfSome}
 use Rattle.std.specs.Io.KnownBytes.{Appends}
-use Rattle.heap_image.specs.HeapImage.{HeapImage, roots_of}
+use Rattle.object_heap.specs.HeapImage.{HeapImage, roots_of}
 use Rattle.heap_image.specs.ImageText.{text}
-use Rattle.heap_image.specs.Outgoing.{TakesBeginning}
-use Rattle.heap_image.specs.Version.{number_of}
+use Rattle.image_streams.specs.Outgoing.{TakesBeginning}
+use Rattle.object_heap.specs.Version.{number_of}
 use Rattle.heap_image.specs.Refusals.{IsReason}
-use Rattle.heap_image.specs.declared.fault.Fault.{Fault}
-use Rattle.heap_image.specs.declared.fault.Fault.TheVariants.{Memory}
+use Rattle.image_streams.specs.declared.fault.Fault.{Fault}
+use Rattle.image_streams.specs.declared.fault.Fault.TheVariants.{Memory}
 use Rattle.command_support.specs.declared.failure.Failure.{Failure}
 use Rattle.command_support.specs.declared.failure.Failure.TheVariants as failed
 use Rattle.heap_commands.specs.Upgrade.{IsBegun}

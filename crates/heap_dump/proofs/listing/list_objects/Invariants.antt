@@ -1,5 +1,5 @@
 use Rattle.std.proofs.Common.{◌≤◌, ◌-◌}
-use Rattle.heap_image.specs.HeapImage.{heap_words}
+use Rattle.object_heap.specs.HeapImage.{heap_words}
 use Rattle.heap_dump.specs.Listing.{AreObjectsBefore}
 use Rattle.heap_dump.proofs.listing.list_objects.Given as goal
 

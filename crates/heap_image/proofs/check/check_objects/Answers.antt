@@ -1,9 +1,9 @@
 use Rattle.std.proofs.Common.{◌≡◌, ℕ, List, get_or, not, sym, ◌∙◌, ap, Option}
 use Rattle.std.specs.Prelude.{find, map, option_map}
 use Rattle.std.specs.List.{range_with_len}
-use Rattle.heap_image.specs.HeapImage.{HeapImage, with_live, is_unsound}
-use Rattle.heap_image.specs.Header.{references_of}
-use Rattle.heap_image.specs.ImageText.{is_dangling, fields_of}
+use Rattle.object_heap.specs.HeapImage.{HeapImage, with_live, is_unsound}
+use Rattle.object_heap.specs.Header.{references_of}
+use Rattle.object_heap.specs.ObjectFaults.{is_dangling, fields_of}
 use Rattle.heap_image.proofs.Lemmas.Fields.{dangling_searched, dangling_kept}
 use Rattle.heap_image.proofs.Lemmas.Finds.{find_none_more, find-pairs}
 use Rattle.heap_image.proofs.Lemmas.Objects.{unsound_tested, end_more, overlaps_more, header_first}

@@ -1,7 +1,7 @@
 use Rattle.std.proofs.Common.{◌≡◌, take, None}
 use Rattle.std.specs.Prelude.{find, flat_map}
-use Rattle.heap_image.specs.HeapImage.{with_live, size_at, is_unsound}
-use Rattle.heap_image.specs.ImageText.{is_dangling, fields_of}
+use Rattle.object_heap.specs.HeapImage.{with_live, size_at, is_unsound}
+use Rattle.object_heap.specs.ObjectFaults.{is_dangling, fields_of}
 use Rattle.heap_image.proofs.Lemmas.Overlaps.{last_end_of, overlap_of}
 use Rattle.heap_image.proofs.check.check_objects.Given as goal
 

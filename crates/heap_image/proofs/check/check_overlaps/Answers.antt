@@ -1,5 +1,5 @@
 use Rattle.std.proofs.Common.{refl}
-use Rattle.heap_image.specs.HeapImage.{heap_words}
+use Rattle.object_heap.specs.HeapImage.{heap_words}
 use Rattle.heap_image.proofs.Lemmas.Objects.{overlaps_more, end_at}
 use Rattle.heap_image.proofs.check.check_overlaps.Goals as goal
 

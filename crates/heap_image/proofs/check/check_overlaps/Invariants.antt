@@ -1,5 +1,5 @@
 use Rattle.std.proofs.Common.{◌≡◌, take}
-use Rattle.heap_image.specs.HeapImage.{with_live, size_at}
+use Rattle.object_heap.specs.HeapImage.{with_live, size_at}
 use Rattle.heap_image.proofs.Lemmas.Overlaps.{last_end_of, overlap_of}
 use Rattle.heap_image.proofs.check.check_overlaps.Given as goal
 

@@ -1,6 +1,6 @@
 use Rattle.std.proofs.Common.{◌≡◌, ◌≤◌, ℕ, Bool, false, not, sym, ◌∙◌, ap, arith, below_more}
-use Rattle.heap_image.specs.HeapImage.{HeapImage, with_live, is_null_or_live, reference_at}
-use Rattle.heap_image.specs.ImageText.{is_dangling}
+use Rattle.object_heap.specs.HeapImage.{HeapImage, with_live, is_null_or_live, reference_at}
+use Rattle.object_heap.specs.ObjectFaults.{is_dangling}
 use Rattle.heap_image.proofs.Lemmas.Finds.{find_least_from_zero, find_none_in_range}
 use Rattle.heap_image.proofs.check.dangling_field.Goals as goal
 

@@ -1,8 +1,8 @@
 use Rattle.std.proofs.Common.{◌≡◌, ℕ, ◌<◌, false, List}
 use Rattle.std.specs.Prelude.{All}
-use Rattle.heap_image.specs.HeapImage.{heap_words, with_live}
-use Rattle.heap_image.specs.ImageText.{is_dangling}
-use Rattle.heap_image.specs.Bits.{MarkBegins}
+use Rattle.object_heap.specs.HeapImage.{heap_words, with_live}
+use Rattle.object_heap.specs.ObjectFaults.{is_dangling}
+use Rattle.object_heap.specs.Bits.{MarkBegins}
 use Rattle.heap_image.proofs.check.dangling_field.Given as goal
 
 abbrev pub invariant-loop-field : goal.invariant-loop-field

@@ -1,5 +1,5 @@
 use Rattle.std.proofs.Common.{◌≡◌, ◌+◌, ◌-◌, true, false, get_or, length, ap, sym, arith, below_more}
-use Rattle.heap_image.specs.ImageText.{is_misplaced}
+use Rattle.object_heap.specs.ObjectFaults.{is_misplaced}
 use Rattle.heap_image.proofs.Lemmas.Finds.{find_least_from_zero, find_none_in_range}
 use Rattle.heap_image.proofs.Lemmas.LiveOrder.{placed, too_low, too_high}
 use Rattle.heap_image.proofs.check.misplaced_index.Goals as goal

@@ -1,5 +1,5 @@
 use Rattle.std.proofs.Common.{◌≡◌, ℕ, ◌+◌, ◌-◌, ◌<◌, false, get_or}
-use Rattle.heap_image.specs.ImageText.{is_misplaced}
+use Rattle.object_heap.specs.ObjectFaults.{is_misplaced}
 use Rattle.heap_image.proofs.check.misplaced_index.Given as goal
 
 abbrev pub invariant-loop-index : goal.invariant-loop-index

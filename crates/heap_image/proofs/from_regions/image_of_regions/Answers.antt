@@ -1,14 +1,15 @@
 use Rattle.std.proofs.Common.{◌≡◌, ◌<◌, ◌^◌, ◌⊎◌, Option, Some, None, List, ℕ, length, All, map, option_map, refl, sym, ap, subst, ◌∙◌}
 use Rattle.std.specs.List.{concat, range_with_len}
-use Rattle.heap_image.specs.HeapImage.{HeapImage, IsValid, IsWithinLimits, image_of, versioned_image_of, block_of, region_count}
+use Rattle.object_heap.specs.HeapImage.{HeapImage, IsValid, IsWithinLimits, image_of, versioned_image_of, block_of, region_count}
 use Rattle.heap_image.specs.ImageText.{from_tail, first_some, live_list_faults}
 use Rattle.heap_image.specs.Reading.{HasFittingNumbers}
 use Rattle.heap_image.specs.Unchecked.{numbers_in}
-use Rattle.heap_image.specs.Version.{Allows}
+use Rattle.object_heap.specs.Version.{Allows}
 use Rattle.heap_image.specs.declared.from_regions.UncheckedParts.{UncheckedParts}
-use Rattle.heap_image.specs.declared.fault.Fault.TheVariants.{Memory}
+use Rattle.image_streams.specs.declared.fault.Fault.TheVariants.{Memory}
 use Rattle.heap_image.proofs.Lemmas.Blocks.{blocks_are}
 use Rattle.heap_image.proofs.Lemmas.FromTail.{from_tail-IsValid}
+use Rattle.heap_image.proofs.Lemmas.LiveListFaults.{IsFaultlessList}
 use Rattle.heap_image.proofs.Lemmas.Refusing.{fitting_parts, no_fault_of_parts, parts_are}
 use Rattle.heap_image.proofs.Lemmas.Unchecked.{list_reason}
 use Rattle.heap_image.proofs.from_regions.image_of_regions.Goals as goal
@@ -21,8 +22,8 @@ module _ (parts : UncheckedParts) (blocks : List (List ℕ)) (live : List ℕ) (
   image_is : found ≡ from_tail parts.version (numbers_in parts)
   image_is = parts_are parts.version parts.region_log parts.allowance blocks parts.regions.items parts.tail.items live roots same l r
 
-  valid : HasFittingNumbers parts.version (numbers_in parts) → first_some (live_list_faults (from_tail parts.version (image_of parts.region_log 0 blocks parts.tail.items))) ≡ None → IsValid found
-  valid fits sound = subst IsValid (sym image_is) (from_tail-IsValid parts.version (numbers_in parts) fits (no_fault_of_parts parts.version parts.region_log parts.allowance blocks parts.regions.items parts.tail.items same sound))
+  valid : IsFaultlessList → HasFittingNumbers parts.version (numbers_in parts) → first_some (live_list_faults (from_tail parts.version (image_of parts.region_log 0 blocks parts.tail.items))) ≡ None → IsValid found
+  valid faultless fits sound = subst IsValid (sym image_is) (from_tail-IsValid faultless parts.version (numbers_in parts) fits (no_fault_of_parts parts.version parts.region_log parts.allowance blocks parts.regions.items parts.tail.items same sound))
 
 fits_of : (parts : UncheckedParts) → IsWithinLimits parts.region_log (length (concat parts.regions.items)) (length parts.tail.items) → Allows parts.version parts.region_log (length (concat parts.regions.items)) → length parts.tail.items < 2 ^ 32
     → parts.allowance < 2 ^ 64 → All (λ w. w < 2 ^ 64) (concat parts.regions.items) → All (λ w. w < 2 ^ 64) parts.tail.items → HasFittingNumbers parts.version (numbers_in parts)
@@ -32,7 +33,7 @@ fits_of parts limits allowed counted =
 pub with_seen-requires-clause-valid : goal.with_seen-requires-clause-valid
 with_seen-requires-clause-valid c =
     let sized = c.in_default.ensures in
-    valid c.args.parts c.as_slice.result.now c.in-Ok.sound.found.live.items (option_map (λ v. v.items) c.in-Ok.sound.found.roots) c.as_slice.ensures.value c.in-Ok.ensures.live c.in-Ok.ensures.roots
+    valid c.args.parts c.as_slice.result.now c.in-Ok.sound.found.live.items (option_map (λ v. v.items) c.in-Ok.sound.found.roots) c.as_slice.ensures.value c.in-Ok.ensures.live c.in-Ok.ensures.roots c.objects_without_faults.ensures.live_list
     (fits_of c.args.parts sized.limits sized.allowed sized.counted sized.allowance_fits sized.words_fit sized.tail_fit) c.in-Ok.ensures.sound
 
 pub returns-in-Ok-clause-image : goal.returns-in-Ok-clause-image
@@ -46,9 +47,9 @@ returns-in-Ok-clause-blocks c =
     let sized = c.in_default.ensures in
     let live = c.in-Ok.sound.found.live.items in
     let roots = option_map (λ v. v.items) c.in-Ok.sound.found.roots in
-    let valid_found = valid parts c.as_slice.result.now live roots c.as_slice.ensures.value c.in-Ok.ensures.live c.in-Ok.ensures.roots
+    let valid_found = valid parts c.as_slice.result.now live roots c.as_slice.ensures.value c.in-Ok.ensures.live c.in-Ok.ensures.roots c.objects_without_faults.ensures.live_list
     (fits_of parts sized.limits sized.allowed sized.counted sized.allowance_fits sized.words_fit sized.tail_fit) c.in-Ok.ensures.sound in
-    blocks_are parts.version parts.region_log parts.allowance parts.regions.items live roots (record { whole = c.requires.regions; valid = valid_found })
+    blocks_are c.blocks_joined.ensures.count c.blocks_joined.ensures.parts parts.version parts.region_log parts.allowance parts.regions.items live roots (record { whole = c.requires.regions; valid = valid_found })
     ∙ ap (λ image. map (block_of image) (range_with_len 0 (region_count image))) (sym c.with_seen.ensures)
 
 pub returns-in-Err-find_sound_objects-clause-fault : goal.returns-in-Err-find_sound_objects-clause-fault

@@ -1,6 +1,7 @@
 use Rattle.std.proofs.Common.{length, ◌++◌}
-use Rattle.heap_image.specs.HeapImage.{heap_words}
-use Rattle.heap_image.specs.ImageText.{numbers, with_tail}
+use Rattle.object_heap.specs.HeapImage.{heap_words}
+use Rattle.heap_image.specs.ImageText.{with_tail}
+use Rattle.image_streams.specs.Numbers.{numbers}
 use Rattle.heap_image.proofs.Lemmas.TextLaws.{length-numbers, front_words, front_fits, valid_numbers}
 use Rattle.heap_image.proofs.Lemmas.Versions.{magic_names}
 use Rattle.heap_image.proofs.laws.text_tells_its_size.Goals as goal

@@ -1,7 +1,7 @@
 use Rattle.std.proofs.Common.{sym, ◌∙◌, ap}
 use Rattle.std.specs.Option.{is_some}
 use Rattle.std.specs.Prelude.{option_map}
-use Rattle.heap_image.specs.HeapImage.{HeapImage, versioned_image_of}
+use Rattle.object_heap.specs.HeapImage.{HeapImage, versioned_image_of}
 use Rattle.heap_image.specs.Upgrade.{in_version_three}
 use Rattle.heap_image.proofs.Lemmas.Upgrades.{in_version_three-IsValid}
 use Rattle.heap_image.proofs.upgrading.in_version_three.Goals as goal

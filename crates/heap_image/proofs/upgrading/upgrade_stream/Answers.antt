@@ -1,9 +1,9 @@
 use Rattle.std.proofs.Common.{length, ap, ◌∙◌, subst, inr}
 use Rattle.std.proofs.lemmas.Result.{err_from_is_err_and}
 use Rattle.std.specs.Io.KnownBytes.{Appends}
-use Rattle.heap_image.specs.HeapImage.{HeapImage, roots_of}
+use Rattle.object_heap.specs.HeapImage.{HeapImage, roots_of}
 use Rattle.heap_image.specs.ImageText.{text}
-use Rattle.heap_image.specs.Outgoing.{TakesBeginning}
+use Rattle.image_streams.specs.Outgoing.{TakesBeginning}
 use Rattle.heap_image.specs.Upgrade.{IsUpgradeBegun}
 use Rattle.heap_image.proofs.upgrading.upgrade_stream.Goals as goal
 

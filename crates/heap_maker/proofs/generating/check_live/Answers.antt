@@ -1,5 +1,5 @@
 use Rattle.std.proofs.Common.{◌≡◌, ◌∙◌, ap, sym, arith}
-use Rattle.heap_image.specs.HeapImage.{HeapImage, heap_words, live_words}
+use Rattle.object_heap.specs.HeapImage.{HeapImage, heap_words, live_words}
 use Rattle.heap_maker.proofs.generating.check_live.Goals as goal
 
 pub returns : goal.returns

@@ -1,6 +1,6 @@
 use Rattle.std.proofs.Common.{◌≡◌, ◌<◌, ◌^◌, All, length}
 use Rattle.std.specs.List.{concat}
-use Rattle.heap_image.specs.HeapImage.{AreBlocks}
+use Rattle.object_heap.specs.HeapImage.{AreBlocks}
 use Rattle.heap_maker.proofs.regions.regions_of.Given as goal
 
 abbrev pub invariant-loop-r : goal.invariant-loop-r

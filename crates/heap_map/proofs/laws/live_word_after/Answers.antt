@@ -1,7 +1,7 @@
 use Rattle.std.proofs.Common.{◌≡◌, ◌∙◌, ◌<◌, true, false, sym, inl, inr, arith}
 use Rattle.std.proofs.lemmas.Bool.{cases_Bool, false_from_ne_true}
 use Rattle.std.proofs.lemmas.Bool.Decides.{leb_tells}
-use Rattle.heap_image.specs.HeapImage.{is_live_word}
+use Rattle.object_heap.specs.HeapImage.{is_live_word}
 use Rattle.summary.specs.Compaction.{compact}
 use Rattle.summary.specs.LiveObjects.{object_at, object_count}
 use Rattle.summary.specs.NewAddresses.{prefix_end}

@@ -1,5 +1,5 @@
 use Rattle.std.proofs.Common.{◌-◌, arith}
-use Rattle.heap_image.specs.HeapImage.{heap_words, is_live_word}
+use Rattle.object_heap.specs.HeapImage.{heap_words, is_live_word}
 use Rattle.summary.specs.Compaction.{compact}
 use Rattle.summary.specs.NewAddresses.{new_top, prefix_end}
 use Rattle.heap_map.proofs.Lemmas.Ranges.{count_by-all, count_by-none, count_by-same}

@@ -2,7 +2,7 @@ use Rattle.std.proofs.Common.{◌≡◌, ◌∙◌, ◌≤◌, ◌+◌, ℕ, zer
 use Rattle.std.specs.Prelude.{map, sum_by}
 use Rattle.std.specs.List.{range_with_len}
 use Rattle.std.proofs.lemmas.List.FromFn.{sum_by-map-range_with_len_more}
-use Rattle.heap_image.specs.HeapImage.{HeapImage, heap_words, live_words}
+use Rattle.object_heap.specs.HeapImage.{HeapImage, heap_words, live_words}
 use Rattle.heap_map.specs.declared.cell.Cell.{Cell}
 use Rattle.heap_map.specs.Cells.{cell_at, cell_start}
 use Rattle.heap_map.proofs.laws.live_words_of_cells_add_up.Goals as goal

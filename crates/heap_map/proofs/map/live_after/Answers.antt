@@ -2,7 +2,7 @@ use Rattle.std.proofs.Common.{◌∙◌, ◌-◌, ap, subst, arith}
 use Rattle.std.specs.List.{range_with_len}
 use Rattle.std.proofs.lemmas.List.FromFn.{length-range_with_len}
 use Rattle.std.proofs.lemmas.List.Sums.{count_by-le-length}
-use Rattle.heap_image.specs.HeapImage.{HeapImage, IsValid, is_live_word, live_words}
+use Rattle.object_heap.specs.HeapImage.{HeapImage, IsValid, is_live_word, live_words}
 use Rattle.summary.specs.Compaction.{compact}
 use Rattle.summary.specs.NewAddresses.{new_top, prefix_end}
 use Rattle.heap_map.proofs.Lemmas.Ranges.{count_by-all, count_by-none, count_by-same}

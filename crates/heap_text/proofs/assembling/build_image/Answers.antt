@@ -1,6 +1,6 @@
 use Rattle.std.proofs.Common.{◌≡◌, ◌∙◌, ap, sym}
-use Rattle.heap_image.specs.Version.{has_roots}
-use Rattle.heap_image.specs.HeapImage.{HeapImage}
+use Rattle.object_heap.specs.Version.{has_roots}
+use Rattle.object_heap.specs.HeapImage.{HeapImage}
 use Rattle.heap_text.specs.ImageBytes.{bytes_left, Gives}
 use Rattle.heap_text.specs.Text.{text_of}
 use Rattle.heap_text.proofs.Lemmas.ImageSteps.{bytes_are, tail_few, tails_same}

@@ -1,5 +1,5 @@
 use Rattle.std.proofs.Common.{◌≡◌, ◌<◌, ◌-◌, ◌^◌, ℕ, List, Some, vec_len}
-use Rattle.heap_image.specs.HeapImage.{HeapImage, IsValid}
+use Rattle.object_heap.specs.HeapImage.{HeapImage, IsValid}
 use Rattle.heap_text.specs.Parsing.{IsWaiting}
 use Rattle.heap_text.specs.Text.{text_of}
 use Rattle.std.specs.Io.KnownBytes.{Consumes}

@@ -1,6 +1,6 @@
 use Rattle.std.proofs.Common.{◌==◌, ◌∙◌, sym}
 use Rattle.std.proofs.lemmas.Bool.{eq-eqb}
-use Rattle.heap_image.specs.HeapImage.{word_at}
+use Rattle.object_heap.specs.HeapImage.{word_at}
 use Rattle.heap_text.proofs.Lemmas.TextSteps.{all_but_first}
 use Rattle.heap_text.proofs.writing.are_equal.Goals as goal
 

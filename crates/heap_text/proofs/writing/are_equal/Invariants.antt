@@ -1,6 +1,6 @@
 use Rattle.std.proofs.Common.{◌≡◌, ◌==◌}
 use Rattle.std.specs.List.{list_all}
-use Rattle.heap_image.specs.HeapImage.{word_at}
+use Rattle.object_heap.specs.HeapImage.{word_at}
 use Rattle.heap_text.specs.Text.{addresses_between}
 use Rattle.heap_text.proofs.writing.are_equal.Given as goal
 

@@ -1,6 +1,6 @@
 use Rattle.std.proofs.Common.{ℕ, List, ap, ◌∙◌, codes, string_bytes}
-use Rattle.heap_image.specs.HeapImage.{HeapImage, heap_words, version_of}
-use Rattle.heap_image.specs.Version.{number_of}
+use Rattle.object_heap.specs.HeapImage.{HeapImage, heap_words, version_of}
+use Rattle.object_heap.specs.Version.{number_of}
 use Rattle.heap_text.specs.Text.{number_line}
 use Rattle.heap_text.proofs.Lemmas.TextSteps.{append_four, same_line}
 use Rattle.heap_text.proofs.writing.write_front.Goals as goal

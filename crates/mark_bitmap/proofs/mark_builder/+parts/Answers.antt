@@ -1,5 +1,5 @@
 use Rattle.std.proofs.Common.{◌≡◌, ◌+◌, length, sym, subst, rules}
-use Rattle.heap_image.specs.HeapImage.{is_live_word}
+use Rattle.object_heap.specs.HeapImage.{is_live_word}
 use Rattle.mark_bitmap.specs.Marks.{AreBitsFrom}
 use Rattle.mark_bitmap.proofs.Lemmas.PartBits.{join_bits}
 use Rattle.mark_bitmap.proofs.mark_builder.+parts.Goals as goal

@@ -1,5 +1,5 @@
 use Rattle.std.proofs.Common.{◌+◌, ◌-◌, ℕ, List, ltb, get_or, sym, ap, ◌∙◌, subst, arith}
-use Rattle.heap_image.specs.HeapImage.{HeapImage, size_at}
+use Rattle.object_heap.specs.HeapImage.{HeapImage, size_at}
 use Rattle.mark_bitmap.specs.Marks.{IsFirstObject}
 use Rattle.mark_bitmap.proofs.Lemmas.PartBits.{none-continues_at, last-continues_at}
 use Rattle.mark_bitmap.proofs.objects.continues_at.Goals as goal

@@ -1,6 +1,6 @@
 use Rattle.std.proofs.Common.{◌≡◌, ℕ, ◌+◌, ◌-◌, ◌<◌, List, [], ◌∷◌, ◌++◌, length, get_or, map, take, ap, ◌∙◌, sym, arith}
 use Rattle.std.proofs.lemmas.List.{length-set, map_more, take_more_set}
-use Rattle.heap_image.specs.HeapImage.{HeapImage, end_of, size_at}
+use Rattle.object_heap.specs.HeapImage.{HeapImage, end_of, size_at}
 use Rattle.mark_bitmap.proofs.objects.last_words_by_headers.Goals as goal
 
 pub loop-i-preserved : goal.loop-i-preserved

@@ -1,5 +1,5 @@
 use Rattle.std.proofs.Common.{◌≡◌, ◌-◌, length, map, take}
-use Rattle.heap_image.specs.HeapImage.{end_of}
+use Rattle.object_heap.specs.HeapImage.{end_of}
 use Rattle.mark_bitmap.proofs.objects.last_words_by_sizes.Given as goal
 
 abbrev pub invariant-loop-i : goal.invariant-loop-i

@@ -2,7 +2,7 @@ use Rattle.std.proofs.Common.{◌≡◌, ℕ, ◌+◌, ◌*◌, ◌/◌, ◌<◌
 use Rattle.std.specs.List.{list_any}
 use Rattle.std.proofs.Math.Seq.{take-add}
 use Rattle.std.proofs.lemmas.List.Folds.{list_any-append}
-use Rattle.heap_image.specs.HeapImage.{HeapImage, end_of}
+use Rattle.object_heap.specs.HeapImage.{HeapImage, end_of}
 use Rattle.mark_bitmap.proofs.Lemmas.PartBits.{none_set, none_ends_before, those_before_end}
 use Rattle.mark_bitmap.proofs.objects.mark_ends.Goals as goal
 

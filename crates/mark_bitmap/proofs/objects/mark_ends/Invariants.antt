@@ -1,7 +1,7 @@
 use Rattle.std.proofs.Common.{◌≡◌, ℕ, ◌+◌, ◌*◌, ◌<◌, ◌==◌, length, take}
 use Rattle.std.specs.List.{list_any}
-use Rattle.heap_image.specs.HeapImage.{end_of}
-use Rattle.heap_image.specs.Bits.{has, room}
+use Rattle.object_heap.specs.HeapImage.{end_of}
+use Rattle.object_heap.specs.Bits.{has, room}
 use Rattle.mark_bitmap.proofs.objects.mark_ends.Given as goal
 
 abbrev pub invariant-loop-piece : goal.invariant-loop-piece

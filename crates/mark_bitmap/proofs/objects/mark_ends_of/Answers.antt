@@ -3,8 +3,8 @@ use Rattle.std.specs.List.{list_any}
 use Rattle.std.proofs.lemmas.Bool.{cases_lt, eqb-true, eq-eqb}
 use Rattle.std.proofs.lemmas.List.{take_all, length-take, length-drop}
 use Rattle.std.proofs.lemmas.List.Elements.{All-take, All-drop}
-use Rattle.heap_image.specs.HeapImage.{HeapImage, HasSoundHeader, size_at, end_of}
-use Rattle.heap_image.specs.Bits.{has}
+use Rattle.object_heap.specs.HeapImage.{HeapImage, HasSoundHeader, size_at, end_of}
+use Rattle.object_heap.specs.Bits.{has}
 use Rattle.mark_bitmap.proofs.Lemmas.Tests.{same_tests}
 use Rattle.mark_bitmap.proofs.Lemmas.Runs.{list_any-same}
 use Rattle.mark_bitmap.proofs.objects.mark_ends_of.Goals as goal

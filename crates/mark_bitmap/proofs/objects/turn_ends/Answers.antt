@@ -1,6 +1,6 @@
 use Rattle.std.proofs.Common.{◌≡◌, ℕ, ◌+◌, ◌*◌, ◌%◌, ◌^◌, ◌<◌, length, get_or, refl, ap, subst, ◌∙◌, arith, rules}
 use Rattle.std.proofs.lemmas.List.{length-set, get_or-set_other}
-use Rattle.heap_image.specs.HeapImage.{HeapImage, is_live_word}
+use Rattle.object_heap.specs.HeapImage.{HeapImage, is_live_word}
 use Rattle.mark_bitmap.specs.Marks.{continues_at}
 use Rattle.mark_bitmap.proofs.Lemmas.Runs.{one, byte-is, has-set, part_word-is}
 use Rattle.mark_bitmap.proofs.objects.turn_ends.Goals as goal

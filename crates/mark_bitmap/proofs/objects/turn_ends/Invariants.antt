@@ -1,6 +1,6 @@
 use Rattle.std.proofs.Common.{◌≡◌, ℕ, ◌+◌, ◌*◌, ◌≤◌, ◌<◌, length, get_or}
-use Rattle.heap_image.specs.HeapImage.{is_live_word}
-use Rattle.heap_image.specs.Bits.{has}
+use Rattle.object_heap.specs.HeapImage.{is_live_word}
+use Rattle.object_heap.specs.Bits.{has}
 use Rattle.mark_bitmap.specs.Marks.{continues_at}
 use Rattle.mark_bitmap.proofs.Lemmas.Runs.{one}
 use Rattle.mark_bitmap.proofs.objects.turn_ends.Given as goal

@@ -1,6 +1,6 @@
 use Rattle.std.proofs.Common.{◌≡◌, ℕ, ◌+◌, ◌<◌, ◌==◌, ◌||◌, length, take}
 use Rattle.std.specs.List.{list_any}
-use Rattle.heap_image.specs.Bits.{has, room}
+use Rattle.object_heap.specs.Bits.{has, room}
 use Rattle.mark_bitmap.proofs.part_bits.insert_within.Given as goal
 
 abbrev pub invariant-loop-address : goal.invariant-loop-address

@@ -7,7 +7,7 @@ use Rattle.std.proofs.lemmas.Iterator.{YieldsList}
 use Rattle.std.proofs.lemmas.Iterator.Consumers.{YieldsList-turn, YieldsList-end, YieldsList-from_shown}
 use Rattle.std.proofs.lemmas.List.{drop_all, take_all, length_push, get_or_push, get_or_read}
 use Rattle.std.proofs.lemmas.List.FromFn.{length-map-range_with_len, get_or-map-range_with_len, map-range_with_len_more}
-use Rattle.heap_image.specs.HeapImage.{region_count, block_of}
+use Rattle.object_heap.specs.HeapImage.{region_count, block_of}
 use Rattle.region_cells.specs.Cells.{place_of}
 use Rattle.region_cells.proofs.cells.put_all.Goals as goal
 

@@ -1,7 +1,7 @@
 use Rattle.std.proofs.Common.{◌∙◌, ap, sym}
 use Rattle.std.proofs.lemmas.Bool.{cond-true, cond-false}
 use Rattle.std.specs.List.{list_any}
-use Rattle.heap_image.specs.HeapImage.{word_at}
+use Rattle.object_heap.specs.HeapImage.{word_at}
 use Rattle.summary.specs.Compaction.{redirected, is_reference_of}
 use Rattle.summary.proofs.Lemmas.PlainWords.{carried-any}
 use Rattle.summary.proofs.plainly.carried.Goals as goal

@@ -1,7 +1,7 @@
 use Rattle.std.proofs.Common.{◌≡◌, [], ◌∷◌, ◌++◌, ◌∙◌, ap, sym, subst, arith}
 use Rattle.std.specs.Prelude.{map, option_map}
 use Rattle.std.specs.List.{range_with_len}
-use Rattle.heap_image.specs.HeapImage.{IsValid, region_count}
+use Rattle.object_heap.specs.HeapImage.{IsValid, region_count}
 use Rattle.summary.specs.Compaction.{compacted_word}
 use Rattle.summary.specs.RegionData.{region_addresses}
 use Rattle.summary.proofs.Lemmas.PlainWords.{map-range-more, parts-of_blocks}

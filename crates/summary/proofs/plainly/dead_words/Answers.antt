@@ -1,6 +1,6 @@
 use Rattle.std.proofs.Common.{arith, ◌∙◌, sym, ap}
 use Rattle.std.specs.Prelude.{not}
-use Rattle.heap_image.specs.HeapImage.{is_dead_word}
+use Rattle.object_heap.specs.HeapImage.{is_dead_word}
 use Rattle.summary.proofs.Lemmas.Counts.{count_by-more_yes, count_by-more_no}
 use Rattle.summary.proofs.plainly.dead_words.Goals as goal
 use Rattle.summary.proofs.plainly.dead_words.Goals.{then-not-is_live_word, else-not-is_live_word}

@@ -1,7 +1,7 @@
 use Rattle.std.proofs.Common.{◌≡◌, ◌≤◌, ◌-◌}
 use Rattle.std.specs.Prelude.{count_by}
 use Rattle.std.specs.List.{range_with_len}
-use Rattle.heap_image.specs.HeapImage.{is_dead_word}
+use Rattle.object_heap.specs.HeapImage.{is_dead_word}
 use Rattle.summary.proofs.plainly.dead_words.Given as goal
 
 abbrev pub invariant-loop-q : goal.invariant-loop-q

@@ -1,5 +1,5 @@
 use Rattle.std.proofs.Common.{◌≡◌, ℕ, ◌≤◌, ◌<◌, false}
-use Rattle.heap_image.specs.HeapImage.{is_live_word}
+use Rattle.object_heap.specs.HeapImage.{is_live_word}
 use Rattle.summary.proofs.plainly.gap_at.Given as goal
 
 abbrev pub invariant-loop-q : goal.invariant-loop-q

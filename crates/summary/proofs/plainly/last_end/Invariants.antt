@@ -1,6 +1,6 @@
 use Rattle.std.proofs.Common.{◌≡◌, take}
 use Rattle.std.specs.Prelude.{fold}
-use Rattle.heap_image.specs.HeapImage.{end_of}
+use Rattle.object_heap.specs.HeapImage.{end_of}
 use Rattle.summary.proofs.plainly.last_end.Given as goal
 
 abbrev pub invariant-loop-a : goal.invariant-loop-a

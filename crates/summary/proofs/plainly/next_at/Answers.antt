@@ -1,6 +1,6 @@
 use Rattle.std.proofs.Common.{◌≡◌, ℕ, ◌≤◌, List, take, ltb, subst, sym, arith}
 use Rattle.std.specs.Prelude.{fold, filter}
-use Rattle.heap_image.specs.HeapImage.{HeapImage, IsValid, heap_words}
+use Rattle.object_heap.specs.HeapImage.{HeapImage, IsValid, heap_words}
 use Rattle.summary.specs.NewAddresses.{next_after, prefix_end}
 use Rattle.summary.proofs.Lemmas.Nexts.{next-inside}
 use Rattle.summary.proofs.plainly.next_at.Goals as goal

@@ -1,5 +1,5 @@
 use Rattle.std.proofs.Common.{ℕ, ◌+◌, ◌<◌, ◌≤◌, get_or}
-use Rattle.heap_image.specs.HeapImage.{size_at}
+use Rattle.object_heap.specs.HeapImage.{size_at}
 use Rattle.summary.proofs.plainly.origin.Given as goal
 
 abbrev pub invariant-loop-i : goal.invariant-loop-i

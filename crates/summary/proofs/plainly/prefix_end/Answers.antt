@@ -2,7 +2,7 @@ use Rattle.std.proofs.Common.{arith, ◌≤◌, ◌<◌, ◌^◌, ◌≡◌, ◌
 use Rattle.std.proofs.lemmas.Nat.{mul-le, div-add-mod'}
 use Rattle.std.specs.Prelude.{count_by}
 use Rattle.std.specs.List.{range_with_len}
-use Rattle.heap_image.specs.HeapImage.{region_words, is_dead_word, last_end}
+use Rattle.object_heap.specs.HeapImage.{region_words, is_dead_word, last_end}
 use Rattle.summary.specs.NewAddresses.{greatest, prefix_end, dead_words_below, is_allowed}
 use Rattle.summary.proofs.Lemmas.Addresses.{prefix_end-le}
 use Rattle.summary.proofs.Lemmas.Prefix.{greatest-le}

@@ -1,5 +1,5 @@
 use Rattle.std.proofs.Common.{◌≡◌, ◌*◌, ◌≤◌}
-use Rattle.heap_image.specs.HeapImage.{region_words}
+use Rattle.object_heap.specs.HeapImage.{region_words}
 use Rattle.summary.specs.NewAddresses.{greatest, is_allowed, dead_words_below}
 use Rattle.summary.proofs.plainly.prefix_end.Given as goal
 

@@ -1,5 +1,5 @@
 use Rattle.std.proofs.Common.{◌≡◌, ℕ, ◌*◌, ◌<◌, List, length, refl, sym, ◌∙◌, ap, subst, arith}
-use Rattle.heap_image.specs.HeapImage.{HeapImage, start_of, region_count}
+use Rattle.object_heap.specs.HeapImage.{HeapImage, start_of, region_count}
 use Rattle.summary.specs.Reads.{BeginAt}
 use Rattle.summary.specs.declared.region_data.RegionData.{RegionData}
 use Rattle.summary.proofs.Lemmas.Regions.{region_at}

@@ -1,4 +1,4 @@
-use Rattle.heap_image.specs.HeapImage.{HeapImage}
+use Rattle.object_heap.specs.HeapImage.{HeapImage}
 use Rattle.verification.proofs.comparison.objects_are_placed.Goals as goal
 
 pub returns : goal.returns

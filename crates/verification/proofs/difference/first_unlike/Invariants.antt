@@ -1,5 +1,5 @@
 use Rattle.std.proofs.Common.{◌≡◌, ℕ, ◌+◌, ◌<◌}
-use Rattle.heap_image.specs.HeapImage.{word_at}
+use Rattle.object_heap.specs.HeapImage.{word_at}
 use Rattle.verification.proofs.difference.first_unlike.Given as goal
 
 abbrev pub invariant-loop-j : goal.invariant-loop-j

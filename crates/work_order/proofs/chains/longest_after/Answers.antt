@@ -1,6 +1,6 @@
 use Rattle.std.proofs.Common.{◌≡◌, ◌∙◌, ◌<◌, ◌≤◌, ℕ, max, ap, ap₂, sym, subst, true, not, ◌==◌, slice_index_or, arith}
 use Rattle.std.proofs.lemmas.Bool.{and_parts}
-use Rattle.heap_image.specs.HeapImage.{HeapImage, HasLiveList}
+use Rattle.object_heap.specs.HeapImage.{HeapImage, HasLiveList}
 use Rattle.summary.specs.RegionData.{data_words, first_target, last_target}
 use Rattle.summary.specs.WordMoves.{reads}
 use Rattle.work_order.specs.Chains.{IsLongestAfter}

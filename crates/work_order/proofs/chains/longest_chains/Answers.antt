@@ -1,5 +1,5 @@
 use Rattle.std.proofs.Common.{◌≡◌, ◌∙◌, ◌≤◌, ◌+◌, ◌*◌, ◌++◌, ◌∷◌, [], ℕ, List, ap, sym, subst, length, length-append, arith}
-use Rattle.heap_image.specs.HeapImage.{HeapImage}
+use Rattle.object_heap.specs.HeapImage.{HeapImage}
 use Rattle.work_order.specs.Chains.{AreLongest, IsLongestFrom, fill_words}
 use Rattle.work_order.proofs.Lemmas.Steps.{longest-from, one-longer}
 use Rattle.work_order.proofs.chains.longest_chains.Goals as goal

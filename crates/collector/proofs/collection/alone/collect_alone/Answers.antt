@@ -1,6 +1,6 @@
 use Rattle.std.proofs.Common.{◌≡◌, ℕ, subst}
-use Rattle.heap_image.specs.HeapImage.{HeapImage}
-use Rattle.heap_image.specs.declared.fault.Fault.TheVariants.{Gate}
+use Rattle.object_heap.specs.HeapImage.{HeapImage}
+use Rattle.image_streams.specs.declared.fault.Fault.TheVariants.{Gate}
 use Rattle.collector.specs.Halts.{MayRefuse}
 use Rattle.collector.proofs.Lemmas.Failing.{refused_by}
 use Rattle.collector.proofs.collection.alone.collect_alone.Goals as goal

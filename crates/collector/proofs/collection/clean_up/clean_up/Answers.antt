@@ -2,7 +2,7 @@ use Rattle.std.proofs.Common.{◌≡◌, ◌++◌, ℕ, List, length, drop, take
 use Rattle.std.proofs.Math.Seq.{take-append_seam}
 use Rattle.std.specs.Prelude.{map, option_map}
 use Rattle.std.specs.List.{concat}
-use Rattle.heap_image.specs.HeapImage.{HeapImage, IsValid, AreBlocks, versioned_image_of}
+use Rattle.object_heap.specs.HeapImage.{HeapImage, IsValid, AreBlocks, versioned_image_of}
 use Rattle.summary.specs.NewAddresses.{new_address, new_top}
 use Rattle.summary.specs.Compaction.{compact, redirected}
 use Rattle.fill.specs.MovedHeap.{cleared}

@@ -1,6 +1,6 @@
 use Rattle.std.proofs.Common.{◌≡◌, [], ap, sym, ◌∙◌, subst}
 use Rattle.std.specs.Prelude.{All, IsTrue, Some, option_map}
-use Rattle.heap_image.specs.HeapImage.{HeapImage, roots_or, roots_of, is_null_or_live}
+use Rattle.object_heap.specs.HeapImage.{HeapImage, roots_or, roots_of, is_null_or_live}
 use Rattle.collector.proofs.collection.clean_up.redirected_roots.Goals as goal
 
 pub redirect_all-requires-clause-words : goal.redirect_all-requires-clause-words

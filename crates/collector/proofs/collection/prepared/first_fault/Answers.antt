@@ -1,5 +1,5 @@
 use Rattle.std.proofs.Common.{◌≡◌, Result, Ok, Err, IfSome, refl, sym}
-use Rattle.heap_image.specs.declared.fault.Fault.{Fault}
+use Rattle.image_streams.specs.declared.fault.Fault.{Fault}
 use Rattle.collector.specs.declared.workers.worker.Halt.{Halt}
 use Rattle.collector.specs.declared.workers.worker.Halt.TheVariants.{Stopped, Failed}
 use Rattle.collector.specs.Halts.{met_fault}

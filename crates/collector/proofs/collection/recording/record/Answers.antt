@@ -1,6 +1,6 @@
 use Rattle.std.proofs.Common.{◌≡◌, ℕ, subst, ◌∙◌}
-use Rattle.heap_image.specs.HeapImage.{HeapImage}
-use Rattle.heap_image.specs.declared.fault.Fault.TheVariants.{Gate}
+use Rattle.object_heap.specs.HeapImage.{HeapImage}
+use Rattle.image_streams.specs.declared.fault.Fault.TheVariants.{Gate}
 use Rattle.claim_board.specs.Recorders.{worker_count}
 use Rattle.collector.specs.Halts.{MayRefuse}
 use Rattle.collector.proofs.Lemmas.Losses.{loss, refused_by_gate}

@@ -1,6 +1,6 @@
 use Rattle.std.proofs.Common.{Err, ap, inr}
 use Rattle.std.proofs.lemmas.Result.{err_from_is_err_and}
-use Rattle.heap_image.specs.declared.fault.Fault.TheVariants.{Workers, Gate, Schedule}
+use Rattle.image_streams.specs.declared.fault.Fault.TheVariants.{Workers, Gate, Schedule}
 use Rattle.collector.proofs.Lemmas.Reasons.{lost_by_gate}
 use Rattle.collector.proofs.Lemmas.Streams.{no_such_reading, text_begun, appended}
 use Rattle.collector.proofs.collection.streaming.collect_stream.Goals as goal

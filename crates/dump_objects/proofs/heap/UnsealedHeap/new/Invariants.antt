@@ -1,4 +1,4 @@
-use Rattle.heap_image.specs.HeapImage.{AreBlocks}
+use Rattle.object_heap.specs.HeapImage.{AreBlocks}
 use Rattle.dump_objects.proofs.heap.UnsealedHeap.new.Given as goal
 
 abbrev pub invariant-loop-r : goal.invariant-loop-r

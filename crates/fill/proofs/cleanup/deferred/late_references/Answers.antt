@@ -1,5 +1,5 @@
 use Rattle.std.proofs.Common.{ℕ, sym, ap, ◌∙◌}
-use Rattle.heap_image.specs.HeapImage.{HasLiveList}
+use Rattle.object_heap.specs.HeapImage.{HasLiveList}
 use Rattle.summary.specs.Updates.{is_late_reference}
 use Rattle.fill.proofs.Lemmas.Late.{behind-parts, not_before, header_not_before, late_sound}
 use Rattle.fill.proofs.Lemmas.Parts.{cut_behind}

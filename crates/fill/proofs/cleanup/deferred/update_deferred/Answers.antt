@@ -1,6 +1,6 @@
 use Rattle.std.proofs.Common.{◌≡◌, List, ℕ, ap, sym, subst, ◌∙◌}
 use Rattle.std.specs.List.{concat}
-use Rattle.heap_image.specs.HeapImage.{HeapImage}
+use Rattle.object_heap.specs.HeapImage.{HeapImage}
 use Rattle.summary.specs.NewAddresses.{new_top}
 use Rattle.summary.specs.Compaction.{compact}
 use Rattle.fill.specs.MovedHeap.{moved_regions, updated_words, cleared}

@@ -1,7 +1,7 @@
 use Rattle.std.proofs.Common.{◌≡◌, ◌+◌, ◌-◌, ◌*◌, ◌≤◌, ◌<◌, ℕ, length, get_or, true, sym, ◌∙◌, ap, subst, arith, None}
 use Rattle.std.specs.List.{concat}
-use Rattle.heap_image.specs.Header.{references_of}
-use Rattle.heap_image.specs.HeapImage.{HeapImage, FormHeap, region_words, start_of, is_null_or_live}
+use Rattle.object_heap.specs.Header.{references_of}
+use Rattle.object_heap.specs.HeapImage.{HeapImage, FormHeap, region_words, start_of, is_null_or_live}
 use Rattle.summary.specs.Compaction.{moved_word, redirected}
 use Rattle.fill.specs.MovedHeap.{is_late_before, is_reference_behind, words_from}
 use Rattle.fill.proofs.Lemmas.Late.{length-words, words_not, words_same, late-next, or_false, late_up_to, behind-from, up_to-begin, up_to-end}

@@ -1,7 +1,7 @@
 use Rattle.std.proofs.Common.{◌≡◌, ◌+◌, length}
 use Rattle.std.specs.List.{concat}
-use Rattle.heap_image.specs.HeapImage.{FormHeap, start_of}
-use Rattle.heap_image.specs.Header.{references_of}
+use Rattle.object_heap.specs.HeapImage.{FormHeap, start_of}
+use Rattle.object_heap.specs.Header.{references_of}
 use Rattle.summary.specs.Compaction.{moved_word}
 use Rattle.fill.specs.MovedHeap.{words_from}
 use Rattle.fill.proofs.Lemmas.Late.{late_up_to}

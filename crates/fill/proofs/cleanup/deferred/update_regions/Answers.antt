@@ -1,5 +1,5 @@
 use Rattle.std.proofs.Common.{◌≡◌, ◌+◌, ℕ, length, ◌∙◌, ap, arith}
-use Rattle.heap_image.specs.HeapImage.{HeapImage, HasLiveList}
+use Rattle.object_heap.specs.HeapImage.{HeapImage, HasLiveList}
 use Rattle.fill.specs.MovedHeap.{words_from, is_late_before}
 use Rattle.fill.proofs.Lemmas.Parts.{part_form, part_words, part_late}
 use Rattle.fill.proofs.cleanup.deferred.update_regions.Goals as goal

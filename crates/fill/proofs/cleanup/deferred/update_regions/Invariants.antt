@@ -1,6 +1,6 @@
 use Rattle.std.proofs.Common.{◌≡◌, length}
 use Rattle.std.specs.List.{concat}
-use Rattle.heap_image.specs.HeapImage.{FormHeap}
+use Rattle.object_heap.specs.HeapImage.{FormHeap}
 use Rattle.fill.specs.MovedHeap.{words_from, is_late_before}
 use Rattle.fill.proofs.cleanup.deferred.update_regions.Given as goal
 

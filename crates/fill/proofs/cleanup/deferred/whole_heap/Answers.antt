@@ -4,7 +4,7 @@ use Rattle.std.proofs.lemmas.Bool.{false_from_ne_true}
 use Rattle.std.proofs.Math.Nat.{zero-add}
 use Rattle.std.proofs.lemmas.List.FromFn.{length-map-range_with_len}
 use Rattle.std.specs.Prelude.{map}
-use Rattle.heap_image.specs.HeapImage.{HeapImage, HasLiveList, heap_words, region_count, region_words, start_of}
+use Rattle.object_heap.specs.HeapImage.{HeapImage, HasLiveList, heap_words, region_count, region_words, start_of}
 use Rattle.summary.specs.NewAddresses.{new_top}
 use Rattle.summary.specs.Compaction.{moved_word}
 use Rattle.summary.specs.RegionData.{region_addresses}

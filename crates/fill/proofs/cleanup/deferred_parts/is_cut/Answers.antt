@@ -1,8 +1,8 @@
 use Rattle.std.proofs.Common.{◌≡◌, ◌+◌, ◌-◌, ◌*◌, ◌<◌, ℕ, length, get_or, sym, ◌∙◌, ap, subst, arith}
 use Rattle.std.specs.List.{concat}
 use Rattle.std.proofs.lemmas.Bool.{ltb-true}
-use Rattle.heap_image.specs.Header.{references_of}
-use Rattle.heap_image.specs.HeapImage.{HeapImage, FormHeap, region_words, start_of}
+use Rattle.object_heap.specs.Header.{references_of}
+use Rattle.object_heap.specs.HeapImage.{HeapImage, FormHeap, region_words, start_of}
 use Rattle.summary.specs.Compaction.{moved_word}
 use Rattle.fill.specs.MovedHeap.{is_late_before, IsCut}
 use Rattle.fill.proofs.Lemmas.Late.{length-words, words_not}

@@ -1,6 +1,6 @@
 use Rattle.std.proofs.Common.{◌≡◌, take}
 use Rattle.std.specs.Prelude.{sum_by}
-use Rattle.heap_image.specs.HeapImage.{size_at}
+use Rattle.object_heap.specs.HeapImage.{size_at}
 use Rattle.heap_dump.specs.Totals.{held}
 use Rattle.heap_commands.proofs.shared.live_share.live_words.Given as goal
 

@@ -1,5 +1,5 @@
 use Rattle.std.proofs.Common.{◌≡◌, ◌∙◌, sym}
-use Rattle.heap_image.specs.HeapImage.{word_at}
+use Rattle.object_heap.specs.HeapImage.{word_at}
 use Rattle.heap_dump.proofs.Lemmas.Listings.{before_zero}
 use Rattle.heap_dump.proofs.listing.ObjectList.step.Goals as goal
 

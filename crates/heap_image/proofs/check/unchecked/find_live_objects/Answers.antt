@@ -1,12 +1,13 @@
 use Rattle.std.proofs.Common.{◌≡◌, ◌<◌, ◌⊎◌, Some, refl, sym, ap, ◌∙◌, subst}
 use Rattle.std.specs.Prelude.{All}
 use Rattle.std.proofs.lemmas.Result.{err_from_is_err_and}
-use Rattle.heap_image.specs.declared.fault.Fault.TheVariants.{Memory}
-use Rattle.heap_image.specs.HeapImage.{heap_words, with_live, reachable}
-use Rattle.heap_image.specs.ImageText.{first_some, live_list_faults, from_tail, misplaced_root}
-use Rattle.heap_image.specs.declared.version.Version.TheVariants.{Two}
+use Rattle.image_streams.specs.declared.fault.Fault.TheVariants.{Memory}
+use Rattle.object_heap.specs.HeapImage.{heap_words, with_live, reachable}
+use Rattle.heap_image.specs.ImageText.{first_some, live_list_faults, from_tail}
+use Rattle.object_heap.specs.ObjectFaults.{misplaced_root}
+use Rattle.object_heap.specs.declared.version.Version.TheVariants.{Two}
 use Rattle.heap_image.proofs.Lemmas.FromTail.{rooted_faults, rooted_live}
-use Rattle.heap_image.specs.Bits.{MarkBegins}
+use Rattle.object_heap.specs.Bits.{MarkBegins}
 use Rattle.heap_image.proofs.Lemmas.References.{begins_of}
 use Rattle.heap_image.proofs.Lemmas.LiveOrder.{all_below}
 use Rattle.heap_image.proofs.Lemmas.Marked.{only_objects}

@@ -1,6 +1,6 @@
 use Rattle.std.proofs.Common.{◌≡◌, ◌<◌, ◌^◌, length, ap, sym, ◌∙◌, subst}
 use Rattle.std.specs.Prelude.{option_map}
-use Rattle.heap_image.specs.HeapImage.{HeapImage, IsValid, roots_or}
+use Rattle.object_heap.specs.HeapImage.{HeapImage, IsValid, roots_or}
 use Rattle.heap_image.specs.ImageText.{with_tail}
 use Rattle.heap_image.proofs.Lemmas.TextLaws.{valid_numbers}
 use Rattle.heap_image.proofs.image.Image.tail.Goals as goal

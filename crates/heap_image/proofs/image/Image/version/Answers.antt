@@ -1,6 +1,6 @@
 use Rattle.std.proofs.Common.{ap, sym, ◌∙◌, subst}
-use Rattle.heap_image.specs.HeapImage.{HeapImage, IsValid}
-use Rattle.heap_image.specs.Version.{has_roots}
+use Rattle.object_heap.specs.HeapImage.{HeapImage, IsValid}
+use Rattle.object_heap.specs.Version.{has_roots}
 use Rattle.heap_image.proofs.image.Image.version.Goals as goal
 
 pub returns-clause-roots : goal.returns-clause-roots

@@ -1,7 +1,7 @@
 use Rattle.std.proofs.Common.{◌≡◌, ◌*◌, ◌^◌, length, ap, ◌∙◌}
 use Rattle.std.proofs.lemmas.Result.{IfOk-weaker}
 use Rattle.std.specs.List.{concat}
-use Rattle.heap_image.specs.Body.{IsBody}
+use Rattle.image_streams.specs.Body.{IsBody}
 use Rattle.heap_image.proofs.Lemmas.Bodies.{length-blocks}
 use Rattle.heap_image.proofs.io.read.read_body.Goals as goal
 

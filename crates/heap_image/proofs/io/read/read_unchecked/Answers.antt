@@ -2,10 +2,10 @@ use Rattle.std.proofs.Common.{◌≡◌, ◌<◌, ◌⊎◌, [], ap, sym, subst,
 use Rattle.std.proofs.lemmas.Result.{err_from_is_err_and}
 use Rattle.std.specs.Prelude.{All, option_map}
 use Rattle.std.specs.Io.KnownBytes.{Consumes}
-use Rattle.heap_image.specs.Bits.{MarkBegins}
-use Rattle.heap_image.specs.Soundness.{AreWellFormed}
-use Rattle.heap_image.specs.HeapImage.{HeapImage, heap_words, image_of, with_live}
-use Rattle.heap_image.specs.declared.fault.Fault.TheVariants.{Memory}
+use Rattle.object_heap.specs.Bits.{MarkBegins}
+use Rattle.live_objects.specs.Soundness.{AreWellFormed}
+use Rattle.object_heap.specs.HeapImage.{HeapImage, heap_words, image_of, with_live}
+use Rattle.image_streams.specs.declared.fault.Fault.TheVariants.{Memory}
 use Rattle.heap_image.specs.ImageText.{listed_text, from_tail, first_some, first_object_fault, live_list_faults}
 use Rattle.heap_image.specs.Reading.{HasFittingNumbers}
 use Rattle.heap_image.specs.declared.io.read.Unchecked.{Unchecked}

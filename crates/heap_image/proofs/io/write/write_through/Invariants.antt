@@ -1,7 +1,7 @@
 use Rattle.std.proofs.Common.{◌≡◌, ◌*◌, take}
-use Rattle.heap_image.specs.HeapImage.{region_words}
-use Rattle.heap_image.specs.ImageText.{numbers}
-use Rattle.heap_image.specs.Outgoing.{HasRoom, unsent_bytes, Sends}
+use Rattle.object_heap.specs.HeapImage.{region_words}
+use Rattle.image_streams.specs.Numbers.{numbers}
+use Rattle.image_streams.specs.Outgoing.{HasRoom, unsent_bytes, Sends}
 use Rattle.heap_image.proofs.io.write.write_through.Given as goal
 
 abbrev pub invariant-loop-r : goal.invariant-loop-r

@@ -1,6 +1,6 @@
 use Rattle.std.proofs.Common.{inr, refl, ◌∙◌}
 use Rattle.std.proofs.lemmas.Result.{err_from_is_err_and}
-use Rattle.heap_image.specs.HeapImage.{heap_words, with_live}
+use Rattle.object_heap.specs.HeapImage.{heap_words, with_live}
 use Rattle.heap_image.proofs.Lemmas.Faultless.{first_object_fault-None}
 use Rattle.heap_image.proofs.Lemmas.Marked.{only_objects}
 use Rattle.heap_image.proofs.marking.reach.find_and_check.Goals as goal

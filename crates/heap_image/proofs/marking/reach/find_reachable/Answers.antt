@@ -1,7 +1,7 @@
 use Rattle.std.proofs.Common.{◌≡◌, ◌<◌, [], inr, subst}
 use Rattle.std.specs.Prelude.{All, filter}
 use Rattle.std.specs.List.{range_with_len}
-use Rattle.heap_image.specs.Bits.{MarkBegins, has}
+use Rattle.object_heap.specs.Bits.{MarkBegins, has}
 use Rattle.heap_image.proofs.Lemmas.Marked.{listed_below, live_is, live_inside, live_begins, root_fault, no_root_fault}
 use Rattle.heap_image.proofs.Lemmas.WellFormed.{reached_well}
 use Rattle.heap_image.proofs.marking.reach.find_reachable.Goals as goal
@@ -15,15 +15,15 @@ returns-clause-live g c =
     let words = c.len-words.result in
     let bits = c.in_ok-marked.marked.bits in
     let live = c.in_ok-live.live.items in
-    let is : live ≡ filter (has bits) (range_with_len 0 words) = listed_below c.args.heap.now c.args.roots.now bits live words c.len-words.ensures.value c.in_ok-marked.ensures.reached c.in_ok-live.ensures in
-    live_is c.args.heap.now c.args.roots.now bits live words c.len-words.ensures.value c.in_ok-marked.ensures.reached is
+    let is : live ≡ filter (has bits) (range_with_len 0 words) = listed_below c.marks_are_listed.ensures c.args.heap.now c.args.roots.now bits live words c.len-words.ensures.value c.in_ok-marked.ensures.reached c.in_ok-live.ensures in
+    live_is c.args.heap.now c.args.roots.now bits live words c.len-words.ensures.value c.in_ok-marked.ensures.reached is (c.reachable_is_the_least_closed.ensures.ascending c.args.heap.now c.args.roots.now)
 
 pub returns-clause-inside : goal.returns-clause-inside
 returns-clause-inside g c =
     let words = c.len-words.result in
     let bits = c.in_ok-marked.marked.bits in
     let live = c.in_ok-live.live.items in
-    let is : live ≡ filter (has bits) (range_with_len 0 words) = listed_below c.args.heap.now c.args.roots.now bits live words c.len-words.ensures.value c.in_ok-marked.ensures.reached c.in_ok-live.ensures in
+    let is : live ≡ filter (has bits) (range_with_len 0 words) = listed_below c.marks_are_listed.ensures c.args.heap.now c.args.roots.now bits live words c.len-words.ensures.value c.in_ok-marked.ensures.reached c.in_ok-live.ensures in
     subst (λ n. All (λ a. a < n) live) c.len-words.ensures.value (live_inside c.args.heap.now c.args.roots.now bits live words c.len-words.ensures.value c.in_ok-marked.ensures.reached is)
 
 pub returns-clause-begins : goal.returns-clause-begins
@@ -31,8 +31,8 @@ returns-clause-begins g c =
     let words = c.len-words.result in
     let bits = c.in_ok-marked.marked.bits in
     let live = c.in_ok-live.live.items in
-    let is : live ≡ filter (has bits) (range_with_len 0 words) = listed_below c.args.heap.now c.args.roots.now bits live words c.len-words.ensures.value c.in_ok-marked.ensures.reached c.in_ok-live.ensures in
-    subst (λ n. MarkBegins live n bits) c.len-words.ensures.value (live_begins c.args.heap.now c.args.roots.now bits live words c.len-words.ensures.value c.in_ok-marked.ensures.reached is)
+    let is : live ≡ filter (has bits) (range_with_len 0 words) = listed_below c.marks_are_listed.ensures c.args.heap.now c.args.roots.now bits live words c.len-words.ensures.value c.in_ok-marked.ensures.reached c.in_ok-live.ensures in
+    subst (λ n. MarkBegins live n bits) c.len-words.ensures.value (live_begins c.args.heap.now c.args.roots.now bits live words c.len-words.ensures.value c.in_ok-marked.ensures.reached is (c.reachable_is_the_least_closed.ensures.ascending c.args.heap.now c.args.roots.now))
 
 pub returns-clause-roots : goal.returns-clause-roots
 returns-clause-roots g c = no_root_fault c.args.heap.now c.args.roots.now [] c.len-words.result c.len-words.ensures.value c.misplaced_root.result c.misplaced_root.ensures c.in_default.is
@@ -42,6 +42,7 @@ returns-clause-well_formed g c = λ said.
     let words = c.len-words.result in
     let bits = c.in_ok-marked.marked.bits in
     let live = c.in_ok-live.live.items in
-    let is : live ≡ filter (has bits) (range_with_len 0 words) = listed_below c.args.heap.now c.args.roots.now bits live words c.len-words.ensures.value c.in_ok-marked.ensures.reached c.in_ok-live.ensures in
-    let reached = live_is c.args.heap.now c.args.roots.now bits live words c.len-words.ensures.value c.in_ok-marked.ensures.reached is in
-    reached_well c.args.heap.now c.args.roots.now live reached (c.in_ok-marked.ensures.well_formed said)
+    let is : live ≡ filter (has bits) (range_with_len 0 words) = listed_below c.marks_are_listed.ensures c.args.heap.now c.args.roots.now bits live words c.len-words.ensures.value c.in_ok-marked.ensures.reached c.in_ok-live.ensures in
+    let reached = live_is c.args.heap.now c.args.roots.now bits live words c.len-words.ensures.value c.in_ok-marked.ensures.reached is (c.reachable_is_the_least_closed.ensures.ascending c.args.heap.now c.args.roots.now) in
+    let inside = subst (λ n. All (λ a. a < n) live) c.len-words.ensures.value (live_inside c.args.heap.now c.args.roots.now bits live words c.len-words.ensures.value c.in_ok-marked.ensures.reached is) in
+    reached_well c.args.heap.now c.args.roots.now live (c.reachable_is_the_least_closed.ensures.closed c.args.heap.now c.args.roots.now) inside reached (c.in_ok-marked.ensures.well_formed said)

@@ -1,8 +1,8 @@
 use Rattle.std.proofs.Common.{◌≡◌, ◌⊎◌, Some, None, subst}
 use Rattle.std.specs.Prelude.{IfOk, IfErr, OnOk}
-use Rattle.heap_image.specs.declared.fault.Fault.TheVariants.{Memory}
-use Rattle.heap_image.specs.declared.version.Version.TheVariants.{Two}
-use Rattle.heap_image.specs.HeapImage.{HeapImage, reachable, with_live}
+use Rattle.image_streams.specs.declared.fault.Fault.TheVariants.{Memory}
+use Rattle.object_heap.specs.declared.version.Version.TheVariants.{Two}
+use Rattle.object_heap.specs.HeapImage.{HeapImage, reachable, with_live}
 use Rattle.heap_image.specs.ImageText.{first_some, live_list_faults, from_tail}
 use Rattle.heap_image.proofs.marking.reach.mark_from_roots_by_workers.Goals as goal
 

@@ -1,7 +1,7 @@
 use Rattle.std.proofs.Common.{◌≡◌, ◌<◌, ◌^◌, ◌∙◌, All, List, ℕ, None, [], length, false, true, ap, refl, sym, subst, arith}
-use Rattle.heap_image.specs.HeapImage.{HeapImage, image_of, reachable}
-use Rattle.heap_image.specs.Version.{Allows, has_roots}
-use Rattle.heap_image.specs.declared.version.Version.TheVariants.{Two}
+use Rattle.object_heap.specs.HeapImage.{HeapImage, image_of, reachable}
+use Rattle.object_heap.specs.Version.{Allows, has_roots}
+use Rattle.object_heap.specs.declared.version.Version.TheVariants.{Two}
 use Rattle.heap_image.specs.ImageText.{from_tail, first_some, live_list_faults}
 use Rattle.heap_maker.proofs.Lemmas.Valid.{fitting, listed-valid, listed_allows, listed_is_one}
 use Rattle.heap_maker.proofs.generating.UnmarkedHeap.into_image.Goals as goal

@@ -1,5 +1,5 @@
 use Rattle.std.proofs.Common.{◌≡◌, ◌∙◌, ◌<◌, ◌*◌, ℕ, ap, ap₂, subst, arith}
-use Rattle.heap_image.specs.HeapImage.{HeapImage, IsValid, heap_words, live_words, region_count, region_words}
+use Rattle.object_heap.specs.HeapImage.{HeapImage, IsValid, heap_words, live_words, region_count, region_words}
 use Rattle.summary.specs.NewAddresses.{new_top, prefix_end}
 use Rattle.summary.specs.RegionData.{fill_count}
 use Rattle.heap_map.proofs.figures.MapFigures.of.Goals as goal

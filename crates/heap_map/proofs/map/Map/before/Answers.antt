@@ -2,7 +2,7 @@ use Rattle.std.proofs.Common.{◌≡◌, ◌∙◌, ◌+◌, ◌++◌, ◌∷◌
 use Rattle.std.specs.Prelude.{map}
 use Rattle.std.specs.List.{range_with_len}
 use Rattle.std.proofs.lemmas.List.FromFn.{length-map-range_with_len, map-range_with_len_more}
-use Rattle.heap_image.specs.HeapImage.{HeapImage, heap_words, last_end, live_words}
+use Rattle.object_heap.specs.HeapImage.{HeapImage, heap_words, last_end, live_words}
 use Rattle.summary.specs.NewAddresses.{prefix_end}
 use Rattle.heap_map.specs.declared.cell.Cell.{Cell}
 use Rattle.heap_map.specs.Cells.{cell_at, cell_start}

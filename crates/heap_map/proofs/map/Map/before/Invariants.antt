@@ -1,7 +1,7 @@
 use Rattle.std.proofs.Common.{◌≡◌}
 use Rattle.std.specs.Prelude.{map}
 use Rattle.std.specs.List.{range_with_len}
-use Rattle.heap_image.specs.HeapImage.{last_end}
+use Rattle.object_heap.specs.HeapImage.{last_end}
 use Rattle.summary.specs.NewAddresses.{prefix_end}
 use Rattle.heap_map.specs.Cells.{cell_at}
 use Rattle.heap_map.proofs.map.Map.before.Given as goal

@@ -2,7 +2,7 @@ use Rattle.std.proofs.Common.{◌≡◌, ◌+◌, ◌<◌, ◌≤◌, ◌^◌, �
 use Rattle.std.specs.Prelude.{option_map}
 use Rattle.std.specs.List.{AllByRecursion}
 use Rattle.std.proofs.lemmas.Bool.{cases_Bool}
-use Rattle.heap_image.specs.HeapImage.{heap_words}
+use Rattle.object_heap.specs.HeapImage.{heap_words}
 use Rattle.heap_text.specs.Words.{dead_part, data_part, references_part}
 use Rattle.heap_text.specs.Text.{number_text}
 use Rattle.heap_text.proofs.Lemmas.HeapLines.{heap_line, points_ahead, IsDeadLine, IsObjectLine}

@@ -1,5 +1,5 @@
 use Rattle.std.proofs.Common.{◌≡◌, sym, ap, ◌∙◌, arith}
-use Rattle.heap_image.specs.Version.{max_region_log}
+use Rattle.object_heap.specs.Version.{max_region_log}
 use Rattle.heap_text.proofs.Lemmas.PartSteps.{none_some, some_same, true_not_false}
 use Rattle.heap_text.proofs.Lemmas.ParseSteps.{region_log_line}
 use Rattle.heap_text.proofs.line_parser.LineParser.parse_region_log.Goals as goal

@@ -1,7 +1,7 @@
 use Rattle.std.proofs.Common.{◌≤◌, ℕ, refl, sym, subst, arith, codes}
 use Rattle.std.specs.Prelude.{flat_map}
 use Rattle.std.specs.List.{AllByRecursion}
-use Rattle.heap_image.specs.HeapImage.{roots_of}
+use Rattle.object_heap.specs.HeapImage.{roots_of}
 use Rattle.heap_text.specs.Text.{reference_text}
 use Rattle.heap_text.proofs.Lemmas.ParseSteps.{roots_line_is, roots_token, roots_after, roots_low, roots_few, heap_begins}
 use Rattle.heap_text.proofs.Lemmas.PartSteps.{accepts_error, other_name}

@@ -1,6 +1,6 @@
 use Rattle.std.proofs.Common.{◌≡◌, ℕ, sym, ◌∙◌, subst, length, arith}
-use Rattle.heap_image.specs.HeapImage.{IsWithinLimits, heap_words}
-use Rattle.heap_image.specs.Version.{Allows}
+use Rattle.object_heap.specs.HeapImage.{IsWithinLimits, heap_words}
+use Rattle.object_heap.specs.Version.{Allows}
 use Rattle.heap_text.proofs.Lemmas.PartSteps.{none_some, some_same, true_not_false}
 use Rattle.heap_text.proofs.Lemmas.ParseSteps.{words_line}
 use Rattle.heap_text.proofs.line_parser.LineParser.parse_words.Goals as goal

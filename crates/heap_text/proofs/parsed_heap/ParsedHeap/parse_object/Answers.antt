@@ -1,5 +1,5 @@
 use Rattle.std.proofs.Common.{◌≡◌, ◌+◌, ◌++◌, ◌∷◌, [], ℕ, refl, length, length-append, arith}
-use Rattle.heap_image.specs.Header.{object_header}
+use Rattle.object_heap.specs.Header.{object_header}
 use Rattle.heap_text.specs.Words.{HasPushed, references_part, data_part}
 use Rattle.heap_text.proofs.Lemmas.PartSteps.{fields_after, pushed_more, pushed_word, some_same}
 use Rattle.heap_text.proofs.parsed_heap.ParsedHeap.parse_object.Goals as goal

@@ -1,5 +1,5 @@
 use Rattle.std.proofs.Common.{ℕ, List}
-use Rattle.heap_image.specs.HeapImage.{HeapImage, IsValid}
+use Rattle.object_heap.specs.HeapImage.{HeapImage, IsValid}
 use Rattle.heap_text.specs.Parsing.{IsWaiting}
 use Rattle.heap_text.specs.TextLines.{EndsInLine}
 use Rattle.heap_text.proofs.text_parser.TextParser.parse_lines.Given as goal

@@ -1,5 +1,5 @@
 use Rattle.std.proofs.Common.{◌≡◌, ◌≤◌, ap, arith}
-use Rattle.heap_image.specs.HeapImage.{HeapImage, IsValid}
+use Rattle.object_heap.specs.HeapImage.{HeapImage, IsValid}
 use Rattle.summary.specs.RegionData.{destination, partial_words, own_words}
 use Rattle.history.proofs.Lemmas.CopiedOut.{IsRead, is_read}
 use Rattle.history.proofs.machine.ledger.taken_up_to.Goals as goal

@@ -2,11 +2,11 @@ use Rattle.std.proofs.Common.{◌≡◌, ℕ, ◌+◌, ◌-◌, ◌*◌, ◌/◌
 use Rattle.std.specs.Prelude.{MatchOption}
 use Rattle.std.specs.Option.{unwrap_or}
 use Rattle.std.proofs.lemmas.Bool.{cond-true}
-use Rattle.heap_image.specs.Header.{filler_header}
-use Rattle.heap_image.specs.Bits.{NoneFrom, IsFirstFrom}
+use Rattle.object_heap.specs.Header.{filler_header}
+use Rattle.object_heap.specs.Bits.{NoneFrom, IsFirstFrom}
 use Rattle.summary.specs.Fillers.{filler_limit, gap_at, may_begin_filler}
 use Rattle.history.proofs.Lemmas.Carrying.{filler_end}
-use Rattle.heap_image.specs.HeapImage.{HeapImage, heap_words, is_live_word}
+use Rattle.object_heap.specs.HeapImage.{HeapImage, heap_words, is_live_word}
 use Rattle.history.proofs.machine.origins.filler_word.Goals as goal
 
 pub may_begin_filler-requires : goal.may_begin_filler-requires

@@ -1,6 +1,6 @@
 use Rattle.std.proofs.Common.{◌≡◌, ℕ, ◌+◌, List, ◌++◌, [], ◌∷◌, sym, subst, arith}
-use Rattle.heap_image.specs.HeapImage.{HeapImage, is_live_word}
-use Rattle.heap_image.specs.Bits.{IsFirstFrom, NoneFrom}
+use Rattle.object_heap.specs.HeapImage.{HeapImage, is_live_word}
+use Rattle.object_heap.specs.Bits.{IsFirstFrom, NoneFrom}
 use Rattle.summary.specs.NewAddresses.{prefix_end}
 use Rattle.history.proofs.Lemmas.Carrying.{IsListed, listed_first, listed_more, listed_all}
 use Rattle.history.proofs.machine.origins.origins_of.Goals as goal

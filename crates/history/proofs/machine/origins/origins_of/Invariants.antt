@@ -1,5 +1,5 @@
 use Rattle.std.proofs.Common.{◌-◌}
-use Rattle.heap_image.specs.HeapImage.{heap_words}
+use Rattle.object_heap.specs.HeapImage.{heap_words}
 use Rattle.history.proofs.Lemmas.Carrying.{IsListed}
 use Rattle.history.proofs.machine.origins.origins_of.Given as goal
 

@@ -1,6 +1,6 @@
 use Rattle.std.proofs.Common.{◌≡◌, ap, ◌∙◌, arith}
-use Rattle.heap_image.specs.Header.{size_of}
-use Rattle.heap_image.specs.HeapImage.{size_at}
+use Rattle.object_heap.specs.Header.{size_of}
+use Rattle.object_heap.specs.HeapImage.{size_at}
 use Rattle.history.proofs.machine.references.is_deferred.Goals as goal
 
 pub overflow_add-last : goal.overflow_add-last

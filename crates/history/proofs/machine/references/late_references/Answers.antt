@@ -1,7 +1,7 @@
 use Rattle.std.proofs.Common.{◌≡◌, ℕ, ◌+◌, ◌<◌, Bool, List, length, get_or, sym, ap, ◌∙◌, subst, arith}
 use Rattle.std.proofs.lemmas.List.{with_items_is}
-use Rattle.heap_image.specs.Header.{references_of}
-use Rattle.heap_image.specs.HeapImage.{HeapImage, heap_words, word_at, references_at}
+use Rattle.object_heap.specs.Header.{references_of}
+use Rattle.object_heap.specs.HeapImage.{HeapImage, heap_words, word_at, references_at}
 use Rattle.summary.specs.NewAddresses.{new_address}
 use Rattle.summary.specs.Compaction.{is_deferred}
 use Rattle.history.specs.Carrier.{AreSet}

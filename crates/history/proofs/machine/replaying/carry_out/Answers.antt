@@ -1,6 +1,6 @@
 use Rattle.std.proofs.Common.{◌≡◌, ℕ, ◌+◌, ◌<◌, ◌≤◌, ◌⊎◌, ◌∙◌, ◌∷◌, ◌++◌, [], add-one, refl, sym, ap, subst, inr, Some}
 use Rattle.std.specs.Prelude.{slice_index}
-use Rattle.heap_image.specs.HeapImage.{HeapImage, IsValid, word_at}
+use Rattle.object_heap.specs.HeapImage.{HeapImage, IsValid, word_at}
 use Rattle.summary.specs.NewAddresses.{new_top}
 use Rattle.summary.specs.WordMoves.{origin}
 use Rattle.history.specs.Slide.{word_for}

@@ -2,7 +2,7 @@ use Rattle.std.proofs.Common.{◌≡◌, ℕ, ◌<◌, List, length, sym, ap, �
 use Rattle.std.specs.Prelude.{slice_index, IsTrue, ◌↔◌}
 use Rattle.std.proofs.lemmas.Bool.{false≢true}
 use Rattle.std.proofs.lemmas.List.{with_items_is}
-use Rattle.heap_image.specs.HeapImage.{HeapImage, IsValid, heap_words}
+use Rattle.object_heap.specs.HeapImage.{HeapImage, IsValid, heap_words}
 use Rattle.summary.specs.Compaction.{moved_word}
 use Rattle.scheduler.specs.State.{AllAreSettled}
 use Rattle.scheduler.specs.ImageMoves.{image_table}

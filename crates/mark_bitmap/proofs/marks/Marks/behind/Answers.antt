@@ -1,7 +1,7 @@
 use Rattle.std.proofs.Common.{◌≡◌, ◌+◌, ℕ, subst, sym, ap, ◌∙◌, arith}
 use Rattle.std.specs.Prelude.{unwrap_or, MatchOption}
-use Rattle.heap_image.specs.HeapImage.{is_dead_word}
-use Rattle.heap_image.specs.Bits.{NoneBetween, IsFirstBetween}
+use Rattle.object_heap.specs.HeapImage.{is_dead_word}
+use Rattle.object_heap.specs.Bits.{NoneBetween, IsFirstBetween}
 use Rattle.mark_bitmap.proofs.Lemmas.Runs.{live-inside}
 use Rattle.mark_bitmap.proofs.Lemmas.Ends.{IsBehind, behind-is}
 use Rattle.mark_bitmap.proofs.marks.Marks.behind.Goals as goal

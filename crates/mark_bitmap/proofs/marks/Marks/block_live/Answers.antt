@@ -1,7 +1,7 @@
 use Rattle.std.proofs.Common.{◌≡◌, ℕ, ◌+◌, ◌-◌, ◌*◌, ◌/◌, ◌%◌, ◌^◌, ◌≤◌, ◌<◌, ap, arith}
 use Rattle.std.proofs.lemmas.Nat.{mod_below, pow_below, pow_pos}
 use Rattle.std.proofs.Math.Nat.{div-add-mod'}
-use Rattle.heap_image.specs.HeapImage.{is_live_word}
+use Rattle.object_heap.specs.HeapImage.{is_live_word}
 use Rattle.mark_bitmap.specs.Marks.{block_words}
 use Rattle.mark_bitmap.proofs.Lemmas.BlockStarts.{block_inside}
 use Rattle.std.proofs.lemmas.List.FromFn.{length-range_with_len}

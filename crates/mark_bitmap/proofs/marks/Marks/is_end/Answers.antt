@@ -1,7 +1,7 @@
 use Rattle.std.proofs.Common.{◌≡◌, ◌+◌, ◌∙◌, ◌&&◌, ap, sym, true, false}
 use Rattle.std.specs.Prelude.{not}
-use Rattle.heap_image.specs.HeapImage.{is_live_word}
-use Rattle.heap_image.specs.Bits.{has}
+use Rattle.object_heap.specs.HeapImage.{is_live_word}
+use Rattle.object_heap.specs.Bits.{has}
 use Rattle.mark_bitmap.specs.Marks.{continues_at, is_end}
 use Rattle.mark_bitmap.proofs.Lemmas.Ends.{end-is}
 use Rattle.mark_bitmap.proofs.marks.Marks.is_end.Goals as goal

@@ -1,6 +1,6 @@
 use Rattle.std.proofs.Common.{◌-◌, sym, subst}
 use Rattle.std.specs.Prelude.{MatchOption}
-use Rattle.heap_image.specs.Bits.{NoneFrom, IsFirstFrom}
+use Rattle.object_heap.specs.Bits.{NoneFrom, IsFirstFrom}
 use Rattle.mark_bitmap.specs.Marks.{is_end}
 use Rattle.mark_bitmap.proofs.Lemmas.Ends.{none-ends, first-end}
 use Rattle.mark_bitmap.proofs.marks.Marks.next_end.Goals as goal

@@ -1,5 +1,5 @@
 use Rattle.std.proofs.Common.{◌≡◌, ◌-◌, ◌<◌, arith}
-use Rattle.heap_image.specs.HeapImage.{end_of, size_at}
+use Rattle.object_heap.specs.HeapImage.{end_of, size_at}
 use Rattle.mark_bitmap.specs.Marks.{is_end}
 use Rattle.mark_bitmap.proofs.Lemmas.Apart.{end-first, begin-some, IsFirstFrom-unique}
 use Rattle.mark_bitmap.proofs.Lemmas.Ends.{begin-live}

@@ -1,6 +1,6 @@
 use Rattle.std.proofs.Common.{◌≡◌, ◌∙◌, arith}
 use Rattle.std.specs.Arc.{arc_value}
-use Rattle.heap_image.specs.HeapImage.{HeapImage, IsValid, is_live_word}
+use Rattle.object_heap.specs.HeapImage.{HeapImage, IsValid, is_live_word}
 use Rattle.mark_bitmap.specs.Marks.{AreMarks}
 use Rattle.mark_bitmap.proofs.Lemmas.PartBits.{all_bits}
 use Rattle.mark_bitmap.proofs.Lemmas.Runs.{live-inside}

@@ -1,5 +1,5 @@
 use Rattle.std.proofs.Common.{◌≡◌, ℕ, ◌<◌}
-use Rattle.heap_image.specs.HeapImage.{word_at}
+use Rattle.object_heap.specs.HeapImage.{word_at}
 use Rattle.pcompact_c.proofs.images.comparison.other_word.Given as goal
 
 -- the words so far are alike

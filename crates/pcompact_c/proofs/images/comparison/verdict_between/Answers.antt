@@ -1,4 +1,4 @@
-use Rattle.heap_image.specs.HeapImage.{HeapImage, roots_of}
+use Rattle.object_heap.specs.HeapImage.{HeapImage, roots_of}
 use Rattle.verification.specs.Verdict.{HaveSameShape}
 use Rattle.pcompact_c.proofs.Lemmas.Alike.{all_alike, same_lists}
 use Rattle.pcompact_c.proofs.images.comparison.verdict_between.Goals as goal

@@ -1,5 +1,5 @@
 use Rattle.std.proofs.Common.{sym, ◌∙◌, subst, inl, inr}
-use Rattle.heap_image.specs.HeapImage.{HeapImage}
+use Rattle.object_heap.specs.HeapImage.{HeapImage}
 use Rattle.verification.specs.Verdict.{IsVerdict}
 use Rattle.pcompact_c.proofs.Lemmas.Numbered.{is_numbered}
 use Rattle.pcompact_c.proofs.images.verify.compare.Goals as goal

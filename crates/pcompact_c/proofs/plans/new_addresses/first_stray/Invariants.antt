@@ -1,6 +1,6 @@
 use Rattle.std.proofs.Common.{ℕ, ◌<◌, get_or}
 use Rattle.std.specs.Prelude.{IsTrue}
-use Rattle.heap_image.specs.HeapImage.{is_null_or_live}
+use Rattle.object_heap.specs.HeapImage.{is_null_or_live}
 use Rattle.pcompact_c.proofs.plans.new_addresses.first_stray.Given as goal
 
 -- the references so far are null or to live objects

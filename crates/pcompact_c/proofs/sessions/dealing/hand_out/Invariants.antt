@@ -1,6 +1,6 @@
 use Rattle.std.proofs.Common.{◌≡◌, ◌+◌, length, take, drop, vec_len}
 use Rattle.std.specs.Prelude.{All, Some}
-use Rattle.heap_image.specs.HeapImage.{HeapImage}
+use Rattle.object_heap.specs.HeapImage.{HeapImage}
 use Rattle.collector.specs.Sessions.{image_of}
 use Rattle.pcompact_c.specs.Handles.{image_in}
 use Rattle.pcompact_c.proofs.sessions.dealing.hand_out.Given as goal

@@ -1,6 +1,6 @@
 use Rattle.std.proofs.Common.{◌∙◌, ap}
 use Rattle.std.specs.Prelude.{Some, map, option_map}
-use Rattle.heap_image.specs.HeapImage.{HeapImage}
+use Rattle.object_heap.specs.HeapImage.{HeapImage}
 use Rattle.heap_image.specs.ImageText.{with_tail}
 use Rattle.collector.specs.Sessions.{image_of}
 use Rattle.pcompact_c.proofs.Lemmas.Shares.{each_some, ends}

@@ -2,7 +2,7 @@ use Rattle.std.proofs.Common.{◌≡◌, ◌∙◌, List, [], ◌∷◌, ◌++�
 use Rattle.std.specs.Prelude.{Bool, Option, Some, None, IfOk, MatchOption, MatchResult, map}
 use Rattle.std.specs.Ptr.{Ptr}
 use Rattle.std.proofs.lemmas.List.{length-set, map-append, take_more}
-use Rattle.heap_image.specs.declared.fault.Fault.{Fault}
+use Rattle.image_streams.specs.declared.fault.Fault.{Fault}
 use Rattle.collector.specs.declared.session.share.Share.{Share}
 use Rattle.pcompact_c.proofs.Lemmas.Shares.{behind, next, one_more, all_of}
 use Rattle.pcompact_c.proofs.sessions.taking.take_into.Goals as goal

@@ -1,6 +1,6 @@
 use Rattle.std.proofs.Common.{◌≡◌, ◌⊎◌, length, take, drop}
 use Rattle.std.specs.Prelude.{All, None, Some, IfOk, IfErr, map}
-use Rattle.heap_image.specs.declared.fault.Fault.TheVariants.{Memory, Workers}
+use Rattle.image_streams.specs.declared.fault.Fault.TheVariants.{Memory, Workers}
 use Rattle.pcompact_c.proofs.sessions.taking.take_into.Given as goal
 
 -- the handles so far are free, and their shares were taken in their order, but for a fault

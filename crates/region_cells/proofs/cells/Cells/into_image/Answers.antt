@@ -5,7 +5,7 @@ use Rattle.std.proofs.lemmas.Iterator.Consumers.{YieldsList-turn, YieldsList-end
 use Rattle.std.proofs.lemmas.Iterator.Adapters.{YieldsList-from_vec}
 use Rattle.std.proofs.lemmas.List.{length_push}
 use Rattle.std.proofs.lemmas.List.FromFn.{map-range_with_len_more, length-map-range_with_len}
-use Rattle.heap_image.specs.HeapImage.{HeapImage, IsValid, AreBlocks, region_count, block_of}
+use Rattle.object_heap.specs.HeapImage.{HeapImage, IsValid, AreBlocks, region_count, block_of}
 use Rattle.region_cells.specs.Cells.{place_of, image_in}
 use Rattle.region_cells.proofs.Lemmas.Places.{length-places, place-at}
 use Rattle.region_cells.proofs.Lemmas.Whole.{blocks_of, are_blocks, whole_again}

@@ -2,7 +2,7 @@ use Rattle.std.proofs.Common.{◌≡◌, ◌≤◌, length}
 use Rattle.std.specs.Prelude.{map}
 use Rattle.std.specs.List.{range_with_len}
 use Rattle.std.specs.Vec.{vec_capacity}
-use Rattle.heap_image.specs.HeapImage.{region_count, block_of}
+use Rattle.object_heap.specs.HeapImage.{region_count, block_of}
 use Rattle.region_cells.proofs.cells.Cells.into_image.Given as goal
 
 -- the regions so far have their original words

@@ -7,7 +7,7 @@ use Rattle.std.proofs.lemmas.Iterator.Consumers.{YieldsList-turn, YieldsList-end
 use Rattle.std.proofs.lemmas.Iterator.Adapters.{YieldsList-from_vec}
 use Rattle.std.proofs.lemmas.List.{length_push}
 use Rattle.std.proofs.lemmas.List.FromFn.{map-range_with_len_more, length-enumerate_from, get_or-enumerate_from, length-map-range_with_len}
-use Rattle.heap_image.specs.HeapImage.{HeapImage, region_count, block_of}
+use Rattle.object_heap.specs.HeapImage.{HeapImage, region_count, block_of}
 use Rattle.summary.specs.RegionData.{fill_count}
 use Rattle.region_cells.specs.Blocks.{moved_block}
 use Rattle.region_cells.specs.Cells.{place_of, places, image_in}

@@ -1,6 +1,6 @@
 use Rattle.std.proofs.Common.{◌≡◌, length, ap, sym, ◌∙◌, arith}
 use Rattle.std.proofs.lemmas.List.FromFn.{length-map-range_with_len}
-use Rattle.heap_image.specs.HeapImage.{region_count, block_of}
+use Rattle.object_heap.specs.HeapImage.{region_count, block_of}
 use Rattle.summary.specs.RegionData.{fill_count}
 use Rattle.region_cells.specs.Cells.{image_in, places}
 use Rattle.region_cells.proofs.Lemmas.Places.{image_in-places}

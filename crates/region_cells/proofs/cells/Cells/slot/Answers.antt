@@ -1,6 +1,6 @@
 use Rattle.std.proofs.Common.{◌<◌, length, get_or, sym, ap, subst, ◌∙◌, arith}
 use Rattle.std.proofs.lemmas.List.{get_or_read_under}
-use Rattle.heap_image.specs.HeapImage.{region_count}
+use Rattle.object_heap.specs.HeapImage.{region_count}
 use Rattle.region_cells.specs.Cells.{place_of, image_in}
 use Rattle.region_cells.proofs.Lemmas.Places.{length-places, place-at}
 use Rattle.region_cells.proofs.cells.Cells.slot.Goals as goal

@@ -1,5 +1,5 @@
 use Rattle.std.proofs.Common.{◌≡◌, ◌∙◌, ℕ, List, ap, sym, subst}
-use Rattle.heap_image.specs.HeapImage.{HeapImage, region_count}
+use Rattle.object_heap.specs.HeapImage.{HeapImage, region_count}
 use Rattle.history.specs.Replayed.{IsEndOf}
 use Rattle.scheduler.specs.declared.entry.Entry.{Entry}
 use Rattle.history.specs.declared.machine.replayed.End.{End}

@@ -2,7 +2,7 @@ use Rattle.std.proofs.Common.{◌≡◌, ℕ, ◌+◌, ◌-◌, ◌*◌, ◌<◌
 use Rattle.std.proofs.lemmas.List.FromFn.{length-map-range_with_len, get_or-map-range_with_len}
 use Rattle.std.specs.Prelude.{Some, slice_index_or}
 use Rattle.std.specs.List.{range_with_len}
-use Rattle.heap_image.specs.HeapImage.{HeapImage, region_count, start_of}
+use Rattle.object_heap.specs.HeapImage.{HeapImage, region_count, start_of}
 use Rattle.summary.specs.Plan.{place_in}
 use Rattle.summary.specs.RegionData.{deferred}
 use Rattle.summary.proofs.Lemmas.OutOfRange.{deferred-out_of_range, place-back}

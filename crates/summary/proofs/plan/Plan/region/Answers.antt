@@ -1,5 +1,5 @@
 use Rattle.std.proofs.Common.{◌<◌, refl, sym, ◌∙◌, ap, subst}
-use Rattle.heap_image.specs.HeapImage.{region_count}
+use Rattle.object_heap.specs.HeapImage.{region_count}
 use Rattle.summary.specs.RegionData.{region_data}
 use Rattle.summary.proofs.Lemmas.Regions.{region_at}
 use Rattle.summary.proofs.plan.Plan.region.Goals as goal

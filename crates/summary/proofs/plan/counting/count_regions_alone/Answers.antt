@@ -1,7 +1,7 @@
 use Rattle.std.proofs.Common.{◌≡◌, [], ◌∷◌, ◌++◌, ◌∙◌, ap, arith}
 use Rattle.std.specs.Prelude.{map}
 use Rattle.std.specs.List.{range_with_len}
-use Rattle.heap_image.specs.HeapImage.{region_count}
+use Rattle.object_heap.specs.HeapImage.{region_count}
 use Rattle.summary.specs.Layout.{region_counts}
 use Rattle.summary.proofs.Lemmas.PlainWords.{map-range-more}
 use Rattle.summary.proofs.plan.counting.count_regions_alone.Goals as goal

@@ -1,5 +1,5 @@
 use Rattle.std.proofs.Common.{◌≡◌, ◌+◌, ◌*◌, ℕ, refl, ap, ◌∙◌, arith}
-use Rattle.heap_image.specs.HeapImage.{HeapImage, start_of, region_words, live_words}
+use Rattle.object_heap.specs.HeapImage.{HeapImage, start_of, region_words, live_words}
 use Rattle.summary.specs.RegionData.{partial_words, own_words}
 use Rattle.summary.proofs.Lemmas.OwnStarts.{own_start-partial, own_start-own}
 use Rattle.summary.proofs.Lemmas.Regions.{data-le}

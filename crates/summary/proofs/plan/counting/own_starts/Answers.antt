@@ -2,7 +2,7 @@ use Rattle.std.proofs.Common.{◌≡◌, ℕ, ◌+◌, ◌-◌, ◌*◌, ◌<◌
 use Rattle.std.proofs.lemmas.List.{length_push}
 use Rattle.std.proofs.lemmas.Nat.{mul-le}
 use Rattle.std.specs.Prelude.{IsTrue}
-use Rattle.heap_image.specs.HeapImage.{heap_words, region_words, region_count, start_of}
+use Rattle.object_heap.specs.HeapImage.{heap_words, region_words, region_count, start_of}
 use Rattle.mark_bitmap.specs.Marks.{is_begin}
 use Rattle.summary.specs.Layout.{IsOwnStart}
 use Rattle.summary.proofs.Lemmas.Blocks.{region_in_heap}

@@ -1,6 +1,6 @@
 use Rattle.std.proofs.Common.{◌≡◌, ℕ, ◌-◌, ◌<◌, ◌≤◌, length, get_or, false}
 use Rattle.std.specs.Prelude.{IsTrue}
-use Rattle.heap_image.specs.HeapImage.{heap_words, start_of}
+use Rattle.object_heap.specs.HeapImage.{heap_words, start_of}
 use Rattle.mark_bitmap.specs.Marks.{is_begin}
 use Rattle.summary.specs.Layout.{IsOwnStart}
 use Rattle.summary.proofs.plan.counting.own_starts.Given as goal

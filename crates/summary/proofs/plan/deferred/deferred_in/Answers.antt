@@ -1,5 +1,5 @@
 use Rattle.std.proofs.Common.{◌≡◌, ℕ, ◌+◌, ◌-◌, ◌*◌, List, get_or, sym, ◌∙◌, ap, arith}
-use Rattle.heap_image.specs.HeapImage.{HeapImage, start_of, size_at}
+use Rattle.object_heap.specs.HeapImage.{HeapImage, start_of, size_at}
 use Rattle.summary.specs.LiveObjects.{object_at}
 use Rattle.summary.specs.NewAddresses.{new_address}
 use Rattle.summary.specs.Plan.{place_in}

@@ -1,7 +1,7 @@
 use Rattle.std.proofs.Common.{◌≡◌, ◌+◌, ◌*◌, ℕ, List, [], ◌∷◌, ◌++◌, map, sym, ◌∙◌, ap, arith}
 use Rattle.std.specs.List.{range_with_len}
 use Rattle.std.proofs.lemmas.List.FromFn.{map-range_with_len_more}
-use Rattle.heap_image.specs.HeapImage.{start_of}
+use Rattle.object_heap.specs.HeapImage.{start_of}
 use Rattle.summary.specs.Plan.{place_in}
 use Rattle.summary.specs.RegionData.{deferred}
 use Rattle.summary.proofs.plan.deferred.deferred_places.Goals as goal

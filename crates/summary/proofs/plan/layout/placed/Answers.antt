@@ -1,6 +1,6 @@
 use Rattle.std.proofs.Common.{ℕ, ◌≡◌, ◌≤◌, ◌*◌, ◌+◌, ◌∙◌, ap, arith}
 use Rattle.std.specs.Prelude.{None}
-use Rattle.heap_image.specs.HeapImage.{start_of}
+use Rattle.object_heap.specs.HeapImage.{start_of}
 use Rattle.summary.specs.NewAddresses.{prefix_end}
 use Rattle.summary.specs.RegionData.{readers_from, data_words}
 use Rattle.summary.specs.declared.plan.region_counts.RegionCounts.{RegionCounts}

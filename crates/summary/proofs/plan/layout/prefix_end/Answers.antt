@@ -1,6 +1,6 @@
 use Rattle.std.proofs.Common.{ℕ, arith, ◌≤◌, ◌<◌, ◌^◌, ◌≡◌, ◌-◌, ◌*◌, ◌/◌, ◌+◌, ◌%◌, ◌∙◌, ap}
 use Rattle.std.proofs.lemmas.Nat.{mul-le, div-add-mod', le-div}
-use Rattle.heap_image.specs.HeapImage.{region_words, heap_words, last_end}
+use Rattle.object_heap.specs.HeapImage.{region_words, heap_words, last_end}
 use Rattle.summary.specs.NewAddresses.{greatest, dead_words_below, is_allowed}
 use Rattle.summary.specs.RegionData.{data_words}
 use Rattle.summary.specs.declared.plan.region_counts.RegionCounts.{RegionCounts}

@@ -1,7 +1,7 @@
 use Rattle.std.proofs.Common.{◌≡◌, ◌+◌, ◌*◌, ap, sym, ◌∙◌, arith, subst}
 use Rattle.std.proofs.lemmas.Grind.{div_ceil_times}
 use Rattle.std.specs.Int.{div_ceil}
-use Rattle.heap_image.specs.HeapImage.{region_words}
+use Rattle.object_heap.specs.HeapImage.{region_words}
 use Rattle.summary.specs.RegionData.{destination, data_words}
 use Rattle.summary.specs.Sources.{StartsOnly}
 use Rattle.summary.specs.declared.region_data.RegionData.{RegionData}

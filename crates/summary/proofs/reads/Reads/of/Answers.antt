@@ -1,6 +1,6 @@
 use Rattle.std.proofs.Common.{◌≡◌, ◌+◌, ◌*◌, ◌∙◌, ap, arith}
 use Rattle.std.specs.Prelude.{max, min, length}
-use Rattle.heap_image.specs.HeapImage.{start_of, region_words}
+use Rattle.object_heap.specs.HeapImage.{start_of, region_words}
 use Rattle.summary.proofs.Lemmas.SourceRows.{table_in_order, sources_of_table}
 use Rattle.summary.proofs.reads.Reads.of.Goals as goal
 

@@ -1,5 +1,5 @@
 use Rattle.std.proofs.Common.{◌≡◌, ℕ, ◌+◌, ◌-◌, List, sym, ◌∙◌, ap, arith}
-use Rattle.heap_image.specs.HeapImage.{HeapImage}
+use Rattle.object_heap.specs.HeapImage.{HeapImage}
 use Rattle.verification.specs.Compared.{behind, new_ends}
 use Rattle.verification.proofs.Lemmas.Gaps.{behind-zero, behind-next}
 use Rattle.verification.proofs.Lemmas.Placing.{place_of, end_of_place}

@@ -1,6 +1,6 @@
 use Rattle.std.proofs.Common.{◌≡◌, ℕ, ◌+◌, ◌-◌, refl, sym, ap, subst, arith}
 use Rattle.std.specs.Prelude.{Option, MatchOption}
-use Rattle.heap_image.specs.HeapImage.{HeapImage, heap_words}
+use Rattle.object_heap.specs.HeapImage.{HeapImage, heap_words}
 use Rattle.verification.specs.Compared.{AreCompacted, IsFirstOther}
 use Rattle.verification.proofs.Lemmas.Joined.{alike_words, first_of_words}
 use Rattle.verification.proofs.Lemmas.Placing.{zeros_above}

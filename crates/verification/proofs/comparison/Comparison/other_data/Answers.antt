@@ -1,6 +1,6 @@
 use Rattle.std.proofs.Common.{◌≡◌, ℕ, ◌+◌, ◌-◌, ◌<◌, refl, sym, ap, subst, arith}
 use Rattle.std.specs.Prelude.{Option, MatchOption}
-use Rattle.heap_image.specs.HeapImage.{HeapImage, word_at, size_at, references_at}
+use Rattle.object_heap.specs.HeapImage.{HeapImage, word_at, size_at, references_at}
 use Rattle.verification.specs.Difference.{AreAlike, IsLeastDifference}
 use Rattle.verification.specs.Compared.{AreCompacted, IsFirstOther, IsPlaced}
 use Rattle.verification.proofs.Lemmas.Joined.{alike_words, first_of_words}

@@ -1,6 +1,6 @@
 use Rattle.std.proofs.Common.{◌≡◌, ℕ, ◌+◌, ◌-◌, ◌≤◌, ◌<◌, refl, sym, ◌∙◌, subst, arith}
 use Rattle.std.specs.Prelude.{Option, MatchOption}
-use Rattle.heap_image.specs.HeapImage.{HeapImage, word_at}
+use Rattle.object_heap.specs.HeapImage.{HeapImage, word_at}
 use Rattle.verification.specs.Compared.{AreCompacted, IsFirstOther}
 use Rattle.verification.proofs.Lemmas.Joined.{none, single, joined, later, here, alike_words, first_of_words}
 use Rattle.verification.proofs.Lemmas.Placing.{filler_first, filler_zeros}

@@ -1,5 +1,5 @@
 use Rattle.std.proofs.Common.{◌≡◌, ℕ, ◌+◌, ◌<◌, ◌≤◌, refl, sym, ◌∙◌, arith}
-use Rattle.heap_image.specs.HeapImage.{HeapImage, word_at, references_at, size_at}
+use Rattle.object_heap.specs.HeapImage.{HeapImage, word_at, references_at, size_at}
 use Rattle.summary.specs.Compaction.{compact}
 use Rattle.verification.specs.Compared.{AreCompacted, IsFirstOther}
 use Rattle.verification.proofs.Lemmas.Joined.{match_map, none, single, joined, later, here}

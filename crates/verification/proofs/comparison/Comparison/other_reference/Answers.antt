@@ -1,5 +1,5 @@
 use Rattle.std.proofs.Common.{◌≡◌, ℕ, ◌+◌, ◌<◌, refl, sym, ◌∙◌, ap, subst, arith}
-use Rattle.heap_image.specs.HeapImage.{HeapImage, word_at, references_at}
+use Rattle.object_heap.specs.HeapImage.{HeapImage, word_at, references_at}
 use Rattle.summary.specs.Compaction.{redirected, compact}
 use Rattle.verification.proofs.Lemmas.Joined.{single, joined, here}
 use Rattle.verification.proofs.Lemmas.Placing.{reference_word}

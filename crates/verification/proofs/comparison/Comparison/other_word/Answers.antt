@@ -1,6 +1,6 @@
 use Rattle.std.proofs.Common.{◌≡◌, ℕ, zero, suc, ◌+◌, ◌-◌, ◌<◌, ◌≤◌, List, length, ap, sym, subst, ◌∙◌, arith}
 use Rattle.std.specs.Prelude.{Option, Some, None}
-use Rattle.heap_image.specs.HeapImage.{HeapImage, heap_words}
+use Rattle.object_heap.specs.HeapImage.{HeapImage, heap_words}
 use Rattle.summary.specs.LiveObjects.{object_count}
 use Rattle.summary.specs.NewAddresses.{new_top}
 use Rattle.rayon.specs.Numbers.{nat_range}

@@ -1,4 +1,4 @@
-use Rattle.heap_image.specs.HeapImage.{HeapImage}
+use Rattle.object_heap.specs.HeapImage.{HeapImage}
 use Rattle.verification.specs.Verdict.{HaveSameShape}
 use Rattle.verification.proofs.Lemmas.Telling.{shape, word_other, after_words}
 use Rattle.verification.proofs.comparison.Comparison.verdict.Goals as goal

@@ -1,4 +1,4 @@
-use Rattle.heap_image.specs.HeapImage.{HeapImage}
+use Rattle.object_heap.specs.HeapImage.{HeapImage}
 use Rattle.summary.specs.NewAddresses.{new_top}
 use Rattle.verification.specs.Verdict.{HaveSameShape}
 use Rattle.verification.proofs.Lemmas.Telling.{shape, least_below, after_words_below}

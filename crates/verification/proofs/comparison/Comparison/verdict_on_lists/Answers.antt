@@ -1,4 +1,4 @@
-use Rattle.heap_image.specs.HeapImage.{HeapImage}
+use Rattle.object_heap.specs.HeapImage.{HeapImage}
 use Rattle.verification.proofs.Lemmas.Telling.{live_same, live_other, root_other, roots_same}
 use Rattle.verification.proofs.comparison.Comparison.verdict_on_lists.Goals as goal
 

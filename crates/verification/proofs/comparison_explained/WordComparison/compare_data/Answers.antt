@@ -1,5 +1,5 @@
 use Rattle.std.proofs.Common.{ℕ, ◌+◌, sym, ◌∙◌, arith}
-use Rattle.heap_image.specs.HeapImage.{HeapImage, word_at}
+use Rattle.object_heap.specs.HeapImage.{HeapImage, word_at}
 use Rattle.summary.specs.Compaction.{compact}
 use Rattle.verification.proofs.Lemmas.Comparing.{tally_to, data_word}
 use Rattle.verification.proofs.comparison_explained.WordComparison.compare_data.Goals as goal

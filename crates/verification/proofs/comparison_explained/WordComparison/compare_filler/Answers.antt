@@ -1,5 +1,5 @@
 use Rattle.std.proofs.Common.{◌≡◌, ℕ, ◌<◌, ◌≤◌, sym, ◌∙◌, ap, arith}
-use Rattle.heap_image.specs.HeapImage.{HeapImage, word_at}
+use Rattle.object_heap.specs.HeapImage.{HeapImage, word_at}
 use Rattle.summary.specs.Compaction.{compact}
 use Rattle.verification.proofs.Lemmas.Comparing.{gap_zero, tally_to}
 use Rattle.verification.proofs.Lemmas.Placing.{filler_first}

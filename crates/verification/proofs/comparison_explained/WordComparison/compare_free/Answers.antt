@@ -1,5 +1,5 @@
 use Rattle.std.proofs.Common.{◌≡◌, ℕ, ◌<◌, sym, arith}
-use Rattle.heap_image.specs.HeapImage.{HeapImage, heap_words, word_at}
+use Rattle.object_heap.specs.HeapImage.{HeapImage, heap_words, word_at}
 use Rattle.summary.specs.Compaction.{compact}
 use Rattle.verification.proofs.Lemmas.Comparing.{tally_to, zero_above}
 use Rattle.verification.proofs.comparison_explained.WordComparison.compare_free.Goals as goal

@@ -2,7 +2,7 @@ use Rattle.std.proofs.Common.{◌≡◌, ℕ, ◌+◌, ◌<◌, List, [], ◌∷
 use Rattle.std.specs.Prelude.{All, map, take}
 use Rattle.std.proofs.lemmas.List.{map_push, take_more}
 use Rattle.std.proofs.lemmas.List.Elements.{All-push}
-use Rattle.heap_image.specs.HeapImage.{HeapImage}
+use Rattle.object_heap.specs.HeapImage.{HeapImage}
 use Rattle.verification.specs.Explanation.{IsExplained}
 use Rattle.verification.specs.declared.difference_tally.OtherWord.{OtherWord}
 use Rattle.verification.specs.declared.verdict_explanation.ExplainedWord.{ExplainedWord}

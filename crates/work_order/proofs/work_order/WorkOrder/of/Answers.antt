@@ -1,7 +1,7 @@
 use Rattle.std.proofs.Common.{◌≡◌, ◌∙◌, ◌<◌, ◌≤◌, ℕ, List, All, Contains, sym, subst, true, length, slice_index, inl, inr, arith}
 use Rattle.std.proofs.lemmas.Bool.{cases_order, lt-ltb, ltb-true}
 use Rattle.std.proofs.lemmas.List.{get_or_default}
-use Rattle.heap_image.specs.HeapImage.{HeapImage}
+use Rattle.object_heap.specs.HeapImage.{HeapImage}
 use Rattle.summary.specs.RegionData.{fill_count}
 use Rattle.summary.specs.WordMoves.{is_to_fill}
 use Rattle.work_order.specs.Chains.{IsLongestChain}

@@ -1,5 +1,5 @@
 use Rattle.std.proofs.Common.{◌-◌, ◌≡◌, ◌≤◌}
-use Rattle.heap_image.specs.HeapImage.{word_at}
+use Rattle.object_heap.specs.HeapImage.{word_at}
 use Rattle.summary.specs.NewAddresses.{prefix_end}
 use Rattle.summary.specs.WordMoves.{slid}
 use Rattle.fill.specs.WordBlocks.{IsSplitAt}

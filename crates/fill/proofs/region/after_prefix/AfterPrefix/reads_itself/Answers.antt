@@ -1,5 +1,5 @@
 use Rattle.std.proofs.Common.{◌+◌, ℕ, ◌∙◌, ap}
-use Rattle.heap_image.specs.HeapImage.{HeapImage, region_words, start_of}
+use Rattle.object_heap.specs.HeapImage.{HeapImage, region_words, start_of}
 use Rattle.summary.specs.WordMoves.{slid}
 use Rattle.fill.specs.CopiedWords.{reaches}
 use Rattle.fill.proofs.Lemmas.WrittenTo.{region_fits, reads-is}

@@ -1,5 +1,5 @@
 use Rattle.std.proofs.Common.{◌≡◌, ◌+◌, ◌-◌, ◌≤◌, ◌<◌, ℕ, length, true, sym, ◌∙◌, subst, arith}
-use Rattle.heap_image.specs.HeapImage.{HeapImage, start_of, region_words, region_count}
+use Rattle.object_heap.specs.HeapImage.{HeapImage, start_of, region_words, region_count}
 use Rattle.summary.specs.NewAddresses.{prefix_end, new_top}
 use Rattle.summary.specs.WordMoves.{slid, reads}
 use Rattle.summary.specs.Compaction.{moved_word}

@@ -1,5 +1,5 @@
 use Rattle.std.proofs.Common.{◌≡◌, ◌+◌, ◌-◌, ◌≤◌, ◌<◌, ℕ, length, sym, ◌∙◌, ap, subst, arith, max, min}
-use Rattle.heap_image.specs.HeapImage.{HeapImage, HasLiveList, region_words, size_at}
+use Rattle.object_heap.specs.HeapImage.{HeapImage, HasLiveList, region_words, size_at}
 use Rattle.summary.specs.NewAddresses.{new_address, new_top}
 use Rattle.summary.specs.Compaction.{moved_word}
 use Rattle.fill.specs.WordBlocks.{IsSplitAt}

@@ -1,5 +1,5 @@
 use Rattle.std.proofs.Common.{◌≡◌, ◌+◌, ◌-◌, ◌≤◌, ◌<◌, ℕ, List, min, true, false, sym, ◌∙◌, ap, subst, arith}
-use Rattle.heap_image.specs.HeapImage.{HeapImage, HasLiveList, word_at, region_words, start_of}
+use Rattle.object_heap.specs.HeapImage.{HeapImage, HasLiveList, word_at, region_words, start_of}
 use Rattle.summary.specs.WordMoves.{slid, reads}
 use Rattle.fill.specs.WordBlocks.{IsSplitAt, Shows}
 use Rattle.fill.specs.CopiedWords.{copied_word, written_to}

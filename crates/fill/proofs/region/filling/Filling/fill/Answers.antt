@@ -1,7 +1,7 @@
 use Rattle.std.proofs.Common.{◌≡◌, ℕ, ◌+◌, ◌^◌, ◌<◌, ◌≤◌, false, [], refl, sym, ap, ◌∙◌, subst, arith}
 use Rattle.std.proofs.lemmas.Nat.{pow_below}
 use Rattle.std.proofs.lemmas.Result.{on_ok_weaker}
-use Rattle.heap_image.specs.HeapImage.{HeapImage, IsValid, region_words, region_count}
+use Rattle.object_heap.specs.HeapImage.{HeapImage, IsValid, region_words, region_count}
 use Rattle.summary.specs.WordMoves.{reads as image_reads}
 use Rattle.scheduler.specs.declared.event.Event.{Event}
 use Rattle.scheduler.specs.declared.event.Event.TheVariants.{Drain}

@@ -1,5 +1,5 @@
 use Rattle.std.proofs.Common.{◌≡◌, ◌+◌, ◌-◌, ◌≤◌, max}
-use Rattle.heap_image.specs.HeapImage.{region_count}
+use Rattle.object_heap.specs.HeapImage.{region_count}
 use Rattle.scheduler.specs.ImageMoves.{image_table}
 use Rattle.claim_board.specs.Tickets.{IsTicketOf, IsSwept}
 use Rattle.fill.specs.Targets.{SameTarget, IsCopied}

@@ -1,6 +1,6 @@
 use Rattle.std.proofs.Common.{ℕ, ◌^◌, ◌<◌, subst, arith}
 use Rattle.std.proofs.lemmas.Nat.{pow_below}
-use Rattle.heap_image.specs.HeapImage.{HeapImage, IsValid, region_words, region_count, start_of}
+use Rattle.object_heap.specs.HeapImage.{HeapImage, IsValid, region_words, region_count, start_of}
 use Rattle.summary.specs.NewAddresses.{prefix_end}
 use Rattle.summary.specs.WordMoves.{reads as image_reads}
 use Rattle.scheduler.specs.MoveTable.{reads}

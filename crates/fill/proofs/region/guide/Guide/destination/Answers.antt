@@ -1,5 +1,5 @@
 use Rattle.std.proofs.Common.{ℕ, ◌∙◌, ap, subst, arith}
-use Rattle.heap_image.specs.HeapImage.{HeapImage, IsValid}
+use Rattle.object_heap.specs.HeapImage.{HeapImage, IsValid}
 use Rattle.summary.specs.RegionData.{region_data}
 use Rattle.fill.proofs.Lemmas.WrittenTo.{region_fits, destination-slid}
 use Rattle.fill.proofs.region.guide.Guide.destination.Goals as goal

@@ -1,5 +1,5 @@
 use Rattle.std.proofs.Common.{◌≡◌, ◌+◌, ◌≤◌, ℕ, ◌∙◌, ap, subst, arith}
-use Rattle.heap_image.specs.HeapImage.{HeapImage, IsValid, heap_words, region_words, start_of}
+use Rattle.object_heap.specs.HeapImage.{HeapImage, IsValid, heap_words, region_words, start_of}
 use Rattle.summary.specs.WordMoves.{slid}
 use Rattle.summary.specs.RegionData.{region_data, partial_words, own_words}
 use Rattle.fill.proofs.Lemmas.Slides.{slid-from}

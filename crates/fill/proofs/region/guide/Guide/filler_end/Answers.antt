@@ -1,5 +1,5 @@
 use Rattle.std.proofs.Common.{◌≤◌, subst, arith}
-use Rattle.heap_image.specs.HeapImage.{HeapImage, IsValid, heap_words}
+use Rattle.object_heap.specs.HeapImage.{HeapImage, IsValid, heap_words}
 use Rattle.fill.proofs.region.guide.Guide.filler_end.Goals as goal
 
 pub filler_limit-limit-requires : goal.filler_limit-limit-requires

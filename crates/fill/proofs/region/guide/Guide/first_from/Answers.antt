@@ -1,6 +1,6 @@
 use Rattle.std.proofs.Common.{◌≡◌, ◌+◌, ◌-◌, ◌≤◌, ◌<◌, ℕ, inl, inr, sym, ◌∙◌, ap, arith}
 use Rattle.std.proofs.lemmas.Bool.{cases_lt}
-use Rattle.heap_image.specs.HeapImage.{region_words, start_of}
+use Rattle.object_heap.specs.HeapImage.{region_words, start_of}
 use Rattle.summary.specs.WordMoves.{slid}
 use Rattle.fill.proofs.Lemmas.Slides.{slid-gap, slid-run}
 use Rattle.fill.proofs.region.guide.Guide.first_from.Goals as goal

@@ -1,7 +1,7 @@
 use Rattle.std.proofs.Common.{◌∙◌, subst}
 use Rattle.std.specs.Prelude.{MatchOption}
-use Rattle.heap_image.specs.HeapImage.{HeapImage}
-use Rattle.heap_image.specs.Bits.{NoneBetween, IsFirstBetween}
+use Rattle.object_heap.specs.HeapImage.{HeapImage}
+use Rattle.object_heap.specs.Bits.{NoneBetween, IsFirstBetween}
 use Rattle.mark_bitmap.specs.Marks.{is_begin}
 use Rattle.fill.proofs.Lemmas.Steps.{next-from_begin}
 use Rattle.fill.proofs.region.guide.Guide.next_object.Goals as goal

@@ -1,5 +1,5 @@
 use Rattle.std.proofs.Common.{ℕ, subst}
-use Rattle.heap_image.specs.HeapImage.{HeapImage}
+use Rattle.object_heap.specs.HeapImage.{HeapImage}
 use Rattle.summary.specs.Compaction.{moved_word}
 use Rattle.fill.specs.WordBlocks.{Shows}
 use Rattle.fill.proofs.Lemmas.Targets.{target_over, still_block, unwritten_block}

@@ -1,6 +1,6 @@
 use Rattle.std.proofs.Common.{◌≡◌, ◌+◌, ◌-◌, ◌≤◌, ◌<◌, ℕ, List, length, get_or, sym, ◌∙◌, ap, subst, arith}
-use Rattle.heap_image.specs.Header.{size_of}
-use Rattle.heap_image.specs.HeapImage.{HeapImage, HasLiveList, heap_words, region_words, start_of, size_at, end_of, word_at}
+use Rattle.object_heap.specs.Header.{size_of}
+use Rattle.object_heap.specs.HeapImage.{HeapImage, HasLiveList, heap_words, region_words, start_of, size_at, end_of, word_at}
 use Rattle.summary.specs.NewAddresses.{prefix_end, new_address, new_top}
 use Rattle.summary.specs.WordMoves.{slid}
 use Rattle.summary.specs.Compaction.{moved_word}

@@ -1,6 +1,6 @@
 use Rattle.std.proofs.Common.{◌≡◌, ◌+◌, ◌-◌, ◌≤◌, ◌<◌, ℕ, List, inl, inr, sym, subst, arith}
 use Rattle.std.proofs.lemmas.Bool.{cases_lt}
-use Rattle.heap_image.specs.HeapImage.{HeapImage, HasLiveList, region_words, start_of, word_at}
+use Rattle.object_heap.specs.HeapImage.{HeapImage, HasLiveList, region_words, start_of, word_at}
 use Rattle.fill.specs.WordBlocks.{Shows}
 use Rattle.fill.specs.CopiedWords.{copied_word}
 use Rattle.fill.proofs.Lemmas.Targets.{same_target, target_over, still_block, unwritten_block}

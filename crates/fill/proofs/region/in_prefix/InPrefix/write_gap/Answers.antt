@@ -1,7 +1,7 @@
 use Rattle.std.proofs.Common.{◌≡◌, ◌+◌, ◌-◌, ◌*◌, ◌/◌, ◌^◌, ◌≤◌, ◌<◌, ℕ, List, length, set, replicate, inl, inr, refl, sym, ◌∙◌, ap, subst, arith, true, false, length-set}
 use Rattle.std.proofs.lemmas.Bool.{cases_eq, cases_lt}
-use Rattle.heap_image.specs.Header.{filler_header}
-use Rattle.heap_image.specs.HeapImage.{HeapImage, HasLiveList, heap_words, word_at, is_live_word}
+use Rattle.object_heap.specs.Header.{filler_header}
+use Rattle.object_heap.specs.HeapImage.{HeapImage, HasLiveList, heap_words, word_at, is_live_word}
 use Rattle.summary.specs.NewAddresses.{prefix_end}
 use Rattle.summary.specs.Fillers.{filler_limit, may_begin_filler}
 use Rattle.raw_region.specs.Region.{with_words}

@@ -1,8 +1,8 @@
 use Rattle.std.proofs.Common.{◌≡◌, ◌<◌, ◌^◌, ◌∙◌, List, ℕ, ◌≤◌, ap, sym, subst, refl, None, [], length, arith, All}
 use Rattle.std.specs.List.{concat}
-use Rattle.heap_image.specs.HeapImage.{HeapImage, IsWithinLimits, image_of, reachable}
-use Rattle.heap_image.specs.Version.{Allows}
-use Rattle.heap_image.specs.declared.version.Version.TheVariants.{Two}
+use Rattle.object_heap.specs.HeapImage.{HeapImage, IsWithinLimits, image_of, reachable}
+use Rattle.object_heap.specs.Version.{Allows}
+use Rattle.object_heap.specs.declared.version.Version.TheVariants.{Two}
 use Rattle.heap_image.specs.ImageText.{from_tail, first_some, live_list_faults}
 use Rattle.heap_image.specs.Reading.{HasFittingNumbers}
 use Rattle.heap_dump.proofs.heap.draft.Draft.into_image.Goals as goal

@@ -1,6 +1,6 @@
 use Rattle.std.proofs.Common.{Option, Some, None, ◌≡◌, subst, List, ℕ}
 use Rattle.std.specs.Prelude.{IfSome}
-use Rattle.heap_image.specs.HeapImage.{HeapImage, HasLiveList, with_live}
+use Rattle.object_heap.specs.HeapImage.{HeapImage, HasLiveList, with_live}
 use Rattle.heap_image.specs.ImageText.{first_object_fault}
 use Rattle.heap_image.proofs.Lemmas.Faultless.{first_object_fault-None}
 use Rattle.heap_image.proofs.check.unchecked.Found.sizes_if_sound.Goals as goal

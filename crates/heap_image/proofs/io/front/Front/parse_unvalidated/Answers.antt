@@ -1,5 +1,5 @@
 use Rattle.std.proofs.Common.{◌≡◌, take, arith}
-use Rattle.heap_image.specs.ImageText.{magic}
+use Rattle.object_heap.specs.Version.{magic}
 use Rattle.heap_image.proofs.Lemmas.ReadBack.{front_of_bytes, magic_found}
 use Rattle.heap_image.proofs.io.front.Front.parse_unvalidated.Goals as goal
 

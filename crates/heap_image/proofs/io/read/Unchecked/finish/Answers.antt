@@ -3,12 +3,12 @@ use Rattle.std.proofs.lemmas.List.{append-nil}
 use Rattle.std.proofs.lemmas.Result.{err_from_is_err_and}
 use Rattle.std.specs.Prelude.{OnOk, IfErr, option_map}
 use Rattle.std.specs.Io.KnownBytes.{Consumes}
-use Rattle.heap_image.specs.HeapImage.{IsValid, image_of, versioned_image_of}
+use Rattle.object_heap.specs.HeapImage.{IsValid, image_of, versioned_image_of}
 use Rattle.heap_image.specs.ImageText.{text, listed_text, from_tail, first_some, first_object_fault, live_list_faults}
-use Rattle.heap_image.specs.declared.version.Version.{Version}
-use Rattle.heap_image.specs.declared.version.Version.TheVariants.{One, Two, Three}
+use Rattle.object_heap.specs.declared.version.Version.{Version}
+use Rattle.object_heap.specs.declared.version.Version.TheVariants.{One, Two, Three}
 use Rattle.heap_image.specs.Reading.{IsFound, numbers_of}
-use Rattle.heap_image.specs.declared.fault.Fault.{Fault}
+use Rattle.image_streams.specs.declared.fault.Fault.{Fault}
 use Rattle.heap_image.specs.declared.io.read.Unchecked.{Unchecked}
 use Rattle.heap_image.proofs.Lemmas.FromTail.{text-from_tail, from_tail-IsValid}
 use Rattle.heap_image.proofs.Lemmas.Refusing.{check_reason, check_leaves, trailing_reason, trailing_leaves, some_rest, one_taken}
@@ -83,7 +83,7 @@ pub with_seen-requires-clause-valid : goal.with_seen-requires-clause-valid
 with_seen-requires-clause-valid g c =
     let found = c.requires.found in
     let sound = found.ordered ∙ no_fault c.args.checked c.in_ok-checked.field-0 _ c.in_ok-checked.was c.requires.ok in
-    subst IsValid (sym (parts_of c.args.self found.live found.roots)) (from_tail-IsValid c.args.self.front.version (numbers_of c.args.self) c.requires.fits sound)
+    subst IsValid (sym (parts_of c.args.self found.live found.roots)) (from_tail-IsValid c.objects_without_faults.ensures.live_list c.args.self.front.version (numbers_of c.args.self) c.requires.fits sound)
 
 pub returns-clause-text : goal.returns-clause-text
 returns-clause-text g c = λ before read.

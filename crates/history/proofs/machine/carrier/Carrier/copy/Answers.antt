@@ -2,7 +2,7 @@ use Rattle.std.proofs.Common.{ℕ, ◌+◌, ◌<◌, ◌≤◌, length, inl, inr
 use Rattle.std.proofs.lemmas.Bool.{cases_eq}
 use Rattle.std.proofs.lemmas.List.{get_or-set_other}
 use Rattle.std.proofs.lemmas.Grind.{get_or-set_at}
-use Rattle.heap_image.specs.HeapImage.{word_at}
+use Rattle.object_heap.specs.HeapImage.{word_at}
 use Rattle.history.specs.Slide.{word_for}
 use Rattle.history.specs.WordMachine.{image_slide}
 use Rattle.history.proofs.machine.carrier.Carrier.copy.Goals as goal

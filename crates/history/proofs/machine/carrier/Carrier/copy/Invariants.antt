@@ -2,7 +2,7 @@ use Rattle.std.proofs.Common.{◌≡◌, ℕ, ◌<◌, ◌≤◌, ◌⊎◌}
 use Rattle.std.specs.Prelude.{slice_index}
 use Rattle.history.specs.Slide.{word_for}
 use Rattle.history.specs.WordMachine.{image_slide}
-use Rattle.heap_image.specs.HeapImage.{word_at}
+use Rattle.object_heap.specs.HeapImage.{word_at}
 use Rattle.history.proofs.machine.carrier.Carrier.copy.Given as goal
 
 abbrev pub invariant-loop-place : goal.invariant-loop-place

@@ -2,7 +2,7 @@ use Rattle.std.proofs.Common.{◌≡◌, ℕ, List, [], ◌∷◌, ◌++◌, ◌
 use Rattle.std.proofs.lemmas.List.FromFn.{map-range_with_len_more}
 use Rattle.std.specs.Prelude.{map, option_map}
 use Rattle.std.specs.List.{range_with_len}
-use Rattle.heap_image.specs.HeapImage.{HeapImage, IsValid, region_count}
+use Rattle.object_heap.specs.HeapImage.{HeapImage, IsValid, region_count}
 use Rattle.summary.specs.Compaction.{compacted_word}
 use Rattle.summary.specs.RegionData.{region_addresses}
 use Rattle.history.proofs.machine.carrier.Carrier.finish.Goals as goal

@@ -1,6 +1,6 @@
 use Rattle.std.proofs.Common.{◌≡◌, ◌<◌, length, get_or, true, false, sym, ap, ◌∙◌, arith}
 use Rattle.std.proofs.lemmas.List.{get_or_default}
-use Rattle.heap_image.specs.HeapImage.{HeapImage, is_null_or_live}
+use Rattle.object_heap.specs.HeapImage.{HeapImage, is_null_or_live}
 use Rattle.summary.specs.NewAddresses.{new_top}
 use Rattle.summary.specs.Compaction.{redirected}
 use Rattle.history.proofs.Lemmas.Carrying.{late_sound}

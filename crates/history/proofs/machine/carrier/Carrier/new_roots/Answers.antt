@@ -1,5 +1,5 @@
 use Rattle.std.proofs.Common.{◌≡◌, true, get_or, sym, subst}
-use Rattle.heap_image.specs.HeapImage.{HeapImage, is_null_or_live}
+use Rattle.object_heap.specs.HeapImage.{HeapImage, is_null_or_live}
 use Rattle.history.proofs.machine.carrier.Carrier.new_roots.Goals as goal
 
 pub redirected-requires : goal.redirected-requires

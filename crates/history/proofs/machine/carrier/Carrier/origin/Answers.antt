@@ -1,5 +1,5 @@
 use Rattle.std.proofs.Common.{◌≡◌, ◌<◌, sym, ap, ◌∙◌, arith}
-use Rattle.heap_image.specs.HeapImage.{HeapImage, heap_words, is_live_word}
+use Rattle.object_heap.specs.HeapImage.{HeapImage, heap_words, is_live_word}
 use Rattle.summary.specs.NewAddresses.{prefix_end}
 use Rattle.history.proofs.machine.carrier.Carrier.origin.Goals as goal
 

@@ -1,5 +1,5 @@
 use Rattle.std.proofs.Common.{◌≡◌, ℕ, ◌<◌, length, get_or, true, false, sym, ap, ◌∙◌, arith}
-use Rattle.heap_image.specs.HeapImage.{is_null_or_live}
+use Rattle.object_heap.specs.HeapImage.{is_null_or_live}
 use Rattle.std.proofs.lemmas.List.{get_or_default}
 use Rattle.history.proofs.Lemmas.Carrying.{origin_inside, nowhere, redirected_sound}
 use Rattle.history.proofs.machine.carrier.Carrier.word.Goals as goal

@@ -1,5 +1,5 @@
 use Rattle.std.proofs.Common.{◌<◌, ap, ◌∙◌, arith}
-use Rattle.heap_image.specs.HeapImage.{region_count}
+use Rattle.object_heap.specs.HeapImage.{region_count}
 use Rattle.summary.specs.Plan.{sources_from}
 use Rattle.scheduler.proofs.Lemmas.ImageTables.{regions-fill}
 use Rattle.scheduler.proofs.Lemmas.ImageSources.{none_past, next_is, all_inside}

@@ -1,6 +1,6 @@
 use Rattle.std.proofs.Common.{◌<◌, sym, ap, ◌∙◌}
 use Rattle.std.specs.Prelude.{nat_lt}
-use Rattle.heap_image.specs.HeapImage.{region_count}
+use Rattle.object_heap.specs.HeapImage.{region_count}
 use Rattle.scheduler.proofs.Lemmas.ImageTables.{regions-fill, flag-is}
 use Rattle.scheduler.proofs.moves.plan_moves.PlanMoves.to_fill.Goals as goal
 

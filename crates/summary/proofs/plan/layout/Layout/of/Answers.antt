@@ -3,7 +3,7 @@ use Rattle.std.proofs.lemmas.Bool.{cases_lt}
 use Rattle.std.proofs.lemmas.Nat.{div-add-mod'}
 use Rattle.std.specs.Prelude.{map}
 use Rattle.std.specs.List.{range_with_len}
-use Rattle.heap_image.specs.HeapImage.{start_of, region_words, region_count, heap_words}
+use Rattle.object_heap.specs.HeapImage.{start_of, region_words, region_count, heap_words}
 use Rattle.summary.specs.NewAddresses.{prefix_end}
 use Rattle.summary.specs.RegionData.{destination, data_words}
 use Rattle.summary.specs.Layout.{placed_region}

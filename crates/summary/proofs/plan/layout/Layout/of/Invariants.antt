@@ -1,7 +1,7 @@
 use Rattle.std.proofs.Common.{◌≡◌, ◌<◌, ◌≤◌}
 use Rattle.std.specs.Prelude.{map}
 use Rattle.std.specs.List.{range_with_len}
-use Rattle.heap_image.specs.HeapImage.{start_of}
+use Rattle.object_heap.specs.HeapImage.{start_of}
 use Rattle.summary.specs.RegionData.{destination}
 use Rattle.summary.specs.Layout.{placed_region}
 use Rattle.summary.proofs.plan.layout.Layout.of.Given as goal

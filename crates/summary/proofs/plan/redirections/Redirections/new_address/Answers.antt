@@ -1,5 +1,5 @@
 use Rattle.std.proofs.Common.{◌∙◌, subst, arith}
-use Rattle.heap_image.specs.HeapImage.{IsValid}
+use Rattle.object_heap.specs.HeapImage.{IsValid}
 use Rattle.summary.proofs.Lemmas.Ranks.{live_in_heap, object-counted}
 use Rattle.summary.proofs.plan.redirections.Redirections.new_address.Goals as goal
 

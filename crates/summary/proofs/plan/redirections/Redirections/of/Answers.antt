@@ -1,7 +1,7 @@
 use Rattle.std.proofs.Common.{◌≡◌, ℕ, zero, suc, ◌+◌, ◌-◌, ◌*◌, ◌/◌, ◌≤◌, List, map, length, get_or, sym, ◌∙◌, ap, subst, refl, arith}
 use Rattle.std.specs.Arc.{arc_value}
 use Rattle.std.specs.List.{range_with_len}
-use Rattle.heap_image.specs.HeapImage.{HeapImage, heap_words, live_words}
+use Rattle.object_heap.specs.HeapImage.{HeapImage, heap_words, live_words}
 use Rattle.mark_bitmap.specs.Marks.{AreLiveBits, bit_words}
 use Rattle.summary.specs.NewAddresses.{prefix_end}
 use Rattle.summary.specs.Ranks.{ones_before, ones_from}

@@ -1,7 +1,7 @@
 use Rattle.std.proofs.Common.{◌≡◌, ℕ, ◌+◌, ◌-◌, ◌*◌, ◌/◌, ◌%◌, ◌≤◌, ◌<◌, List, length, get_or, sym, ◌∙◌, ap, subst, arith}
 use Rattle.std.specs.Arc.{arc_value}
 use Rattle.std.proofs.lemmas.List.FromFn.{length-map-range_with_len, get_or-map-range_with_len}
-use Rattle.heap_image.specs.HeapImage.{HeapImage, heap_words, is_live_word, live_words}
+use Rattle.object_heap.specs.HeapImage.{HeapImage, heap_words, is_live_word, live_words}
 use Rattle.mark_bitmap.specs.Marks.{bit_words}
 use Rattle.summary.specs.Redirections.{AreBits, AreRedirections, counted_below, first_rank}
 use Rattle.summary.proofs.Lemmas.Ranks.{bits-of, least-counted, live-within}

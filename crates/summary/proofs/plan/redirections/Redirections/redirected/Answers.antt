@@ -1,5 +1,5 @@
 use Rattle.std.proofs.Common.{sym, ◌∙◌, subst}
-use Rattle.heap_image.specs.HeapImage.{IsValid}
+use Rattle.object_heap.specs.HeapImage.{IsValid}
 use Rattle.summary.proofs.Lemmas.Ranks.{reference-inside, redirected-counted}
 use Rattle.summary.proofs.plan.redirections.Redirections.redirected.Goals as goal
 

@@ -1,5 +1,0 @@
-use Rattle.heap_image.proofs.Lemmas.RootsToLive.{live_roots}
-use Rattle.heap_image.proofs.laws.live_objects_are_reached.Goals as goal
-
-pub returns : goal.returns
-returns c = live_roots

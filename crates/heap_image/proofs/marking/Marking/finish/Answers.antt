@@ -1,8 +1,0 @@
-use Rattle.heap_image.proofs.Lemmas.MarkingSteps.{marking_last, marking_last-well}
-use Rattle.heap_image.proofs.marking.Marking.finish.Goals as goal
-
-pub returns-clause-reached : goal.returns-clause-reached
-returns-clause-reached c = λ roots m. marking_last c.args.heap.now roots c.follow_all.new.self.bits c.follow_all.new.self.well_formed (c.in_ok-follow_all.ensures roots m)
-
-pub returns-clause-well_formed : goal.returns-clause-well_formed
-returns-clause-well_formed c = λ roots m. marking_last-well c.args.heap.now roots c.follow_all.new.self.bits c.follow_all.new.self.well_formed (c.in_ok-follow_all.ensures roots m)

@@ -1,9 +1,0 @@
-use Rattle.std.proofs.Common.{◌≡◌, map, length}
-use Rattle.heap_image.proofs.Lemmas.Rows.{EmptyBelow}
-use Rattle.heap_image.proofs.marking.boxes.Boxes.clear.Given as goal
-
-abbrev pub invariant-loop-k : goal.invariant-loop-k
-invariant-loop-k l = record {
-  empty : EmptyBelow l.k (map (λ v. v.items) l.self-inside.boxes.items);
-  count : length l.self-inside.boxes.items ≡ length l.initial.self-inside.boxes.items;
-}

@@ -1,7 +1,0 @@
-use Rattle.heap_image.proofs.Lemmas.Joins.{AreJoined}
-use Rattle.heap_image.proofs.marking.finish.join_bits.Given as goal
-
-abbrev pub invariant-loop-part : goal.invariant-loop-part
-invariant-loop-part l = record {
-  joined : AreJoined l.fn.log l.parts l.part-index l.joined.items;
-}

@@ -1,7 +1,0 @@
-use Rattle.heap_image.proofs.Lemmas.Finish.{AreStackedUp}
-use Rattle.heap_image.proofs.marking.finish.join_stacks.Given as goal
-
-abbrev pub invariant-loop-part : goal.invariant-loop-part
-invariant-loop-part l = record {
-  stacked : AreStackedUp l.parts l.part-index l.stack.items;
-}

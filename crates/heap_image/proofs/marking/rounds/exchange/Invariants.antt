@@ -1,7 +1,0 @@
-use Rattle.heap_image.proofs.Lemmas.Exchanges.{AreExchangedTo}
-use Rattle.heap_image.proofs.marking.rounds.exchange.Given as goal
-
-abbrev pub invariant-loop-k : goal.invariant-loop-k
-invariant-loop-k l = record {
-  exchanged : AreExchangedTo l.k l.initial.parts l.parts l.initial.sent l.sent;
-}

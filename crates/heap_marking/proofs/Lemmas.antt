@@ -1,0 +1,13 @@
+pub mod Numbers
+pub mod Growth
+pub mod MarkingSteps
+pub mod Following
+pub mod Rows
+pub mod Spreads
+pub mod Running
+pub mod Exchanges
+pub mod Turns
+pub mod Starts
+pub mod Joins
+pub mod Finish
+pub mod Ones

@@ -1,0 +1,4 @@
+pub mod Marking
+pub mod Boxes
+pub mod Spread
+pub mod Rounds

@@ -1,0 +1,58 @@
+-- Marks while they grow, and the addresses whose references are still to be followed.
+use Rattle.std.specs.Prelude.{◌≡◌, ◌⊎◌, ℕ, ◌+◌, ◌/◌, ◌<◌, ◌≤◌, Bool, true, false, not, IsTrue, List, All, Contains, length, count_by, map}
+use Rattle.std.specs.List.{list_any, range_with_len}
+use Rattle.object_heap.specs.HeapImage.{HeapImage, heap_words, references_at, reference_at, is_unsound, leads_to, refers_to, reachable}
+use Rattle.object_heap.specs.Bits.{has}
+use Rattle.object_heap.specs.Reachable.{is_listed}
+use Rattle.heap_marking.specs.declared.marking.Waiting.{Waiting}
+
+-- the number of addresses below `words` that are not marked
+abbrev pub unmarked : ℕ → List ℕ → ℕ
+unmarked words bits = count_by (λ a. not (has bits a)) (range_with_len 0 words)
+
+-- the addresses of the objects that wait
+abbrev pub waiting_addresses : List Waiting → List ℕ
+waiting_addresses batch = map (λ w. w.address) batch
+
+-- the addresses on the stack are below the number of words, and marked
+abbrev pub AreStacked : ℕ → List ℕ → List ℕ → Type 0
+AreStacked words bits stack = All (λ a. (a < words) × (has bits a ≡ true)) stack
+
+-- The targets become marked, and no other address does. Those that weren't marked before are pushed on the stack.
+pub record IsGrown (words : ℕ) (targets : ℕ → Bool) (bits new_bits stack new_stack : List ℕ) : Type 0 where
+  pub room : length new_bits ≡ length bits
+  pub kept : (a : ℕ) → a < words → has bits a ≡ true → has new_bits a ≡ true
+  pub all : (a : ℕ) → a < words → targets a ≡ true → has new_bits a ≡ true
+  pub none_else : (a : ℕ) → a < words → has new_bits a ≡ true → (has bits a ≡ true) ⊎ (targets a ≡ true)
+  pub pending : (a : ℕ) → a < words → has new_bits a ≡ true → (has bits a ≡ true) ⊎ Contains new_stack a
+  pub stacked : (a : ℕ) → Contains stack a → Contains new_stack a
+  pub outside : (a : ℕ) → words ≤ a → has new_bits a ≡ has bits a
+  pub total : length new_stack + unmarked words new_bits ≡ length stack + unmarked words bits
+  pub inside : AreStacked words bits stack → AreStacked words new_bits new_stack
+
+-- the object at a has a sound header, and none of its references leads out of the heap
+pub record IsWellFormed (image : HeapImage) (a : ℕ) : Type 0 where
+  pub sound : is_unsound image a ≡ false
+  pub inside : (f : ℕ) → f < references_at image a → reference_at image a f ≤ heap_words image
+
+-- All marked addresses are reachable, the roots are marked, and the references of each marked object that isn't on the
+-- stack are followed. If the flag is set, all followed objects are well-formed.
+pub record IsMarking (image : HeapImage) (roots bits stack : List ℕ) (well_formed : Bool) : Type 0 where
+  pub room : length bits ≡ heap_words image / 64 + 1
+  pub inside : AreStacked (heap_words image) bits stack
+  pub reached : (a : ℕ) → a < heap_words image → has bits a ≡ true → is_listed (reachable image roots) a ≡ true
+  pub outside : (a : ℕ) → heap_words image ≤ a → has bits a ≡ false
+  pub started : (a : ℕ) → a < heap_words image → list_any (λ w. leads_to w a) roots ≡ true → has bits a ≡ true
+  pub followed : (a : ℕ) → a < heap_words image → has bits a ≡ true
+      → Contains stack a ⊎ ((b : ℕ) → b < heap_words image → refers_to image a b ≡ true → has bits b ≡ true)
+  pub formed : IsTrue well_formed → (a : ℕ) → a < heap_words image → has bits a ≡ true → Contains stack a ⊎ IsWellFormed image a
+
+-- the marked addresses are the reachable ones
+pub record AreReached (image : HeapImage) (roots bits : List ℕ) : Type 0 where
+  pub room : length bits ≡ heap_words image / 64 + 1
+  pub marked : (a : ℕ) → a < heap_words image → has bits a ≡ is_listed (reachable image roots) a
+  pub outside : (a : ℕ) → heap_words image ≤ a → has bits a ≡ false
+
+-- the reachable objects have sound headers, and none of their references leads out of the heap
+abbrev pub AreReachedWell : HeapImage → List ℕ → Type 0
+AreReachedWell image roots = (a : ℕ) → a < heap_words image → is_listed (reachable image roots) a ≡ true → IsWellFormed image a

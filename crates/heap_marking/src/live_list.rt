@@ -1,0 +1,195 @@
+//! Makes a live list of mark bits, in one thread or in parts by several.
+ghost use Rattle.std.specs.Prelude.{◌≡◌, ◌<◌, ◌≤◌, ◌+◌, ◌^◌, ◌++◌, OnOk, IfOk, length, map, take};
+ghost use Rattle.object_heap.specs.Bits.{addresses_between, addresses_of, ones_of};
+
+use crate::crowd::Crowd;
+use object_heap::{Bits, ones_of};
+use std::alloc::{AllocError, Global};
+use std::thread::{Threads, join_mut};
+
+/// The least number of words of bits that are worth a thread.
+const LEAST_WORDS: usize = 4_096;
+
+/// The addresses of a set, ascending.
+pub fn marked_addresses(alloc: Global, bits: &Bits) -> Result<Vec<u64>, AllocError>
+    requires few { length bits.now < 2 ^ 58 }
+    ensures { IfOk result (λ live. live.items ≡ addresses_of bits.now) }
+{
+    let words = bits.words();
+    marked_between(alloc, words, 0, words.len())
+}
+
+/// Like [`marked_addresses`], in the threads of a crowd: each writes a part of the list, which is allocated once.
+pub fn marked_by_crowd<T: Threads + Sync>(
+    alloc: Global,
+    bits: &Bits,
+    crowd: &Crowd<'_, T>,
+) -> Result<Vec<u64>, AllocError>
+    requires few { length bits.now < 2 ^ 58 }
+    ensures { IfOk result (λ live. live.items ≡ addresses_of bits.now) }
+{
+    let words = bits.words();
+    let count = crowd.most.min(words.len() / LEAST_WORDS);
+    if count < 2 {
+        return marked_addresses(alloc, bits);
+    }
+    let writer = ListWriter {
+        words,
+        share: words.len().div_ceil(count),
+        threads: crowd.threads,
+    };
+    let mut live = vec![in alloc; 0u64; ones_between(words, 0, words.len())]?;
+    writer.start(live.as_mut_slice());
+    Ok(live)
+}
+
+/// What the threads share that write a list.
+#[derive(Drop)]
+struct ListWriter<'a, T: Threads + Sync> {
+    words: &'a [u64],
+    /// The number of words of bits whose addresses a thread writes.
+    share: usize,
+    threads: &'a T,
+}
+
+impl<T: Threads + Sync> ListWriter<'_, T> {
+    /// Writes all addresses. An extra thread does nothing: the system delays the first one that the caller starts.
+    fn start(&self, list: &mut [u64])
+        requires few { length self.now.words.now < 2 ^ 58 }
+        requires share { 0 < self.now.share }
+        requires room { length list.old ≡ length (addresses_between self.now.words.now 0 (length self.now.words.now)) }
+        ensures { list.new ≡ addresses_between self.now.words.now 0 (length self.now.words.now) }
+    {
+        let mut write = ||
+            requires { (length self.now.words.now < 2 ^ 58) × (0 < self.now.share)
+                × (length list.now ≡ length (addresses_between self.now.words.now 0 (length self.now.words.now))) }
+            ensures { list.exit.now ≡ addresses_between self.entry.now.words.now 0 (length self.entry.now.words.now) }
+        { self.write(0, list) };
+        join_mut(self.threads, &mut || {}, &mut write);
+    }
+
+    /// Writes the addresses of the words from index `first` on. Each share of words but the last gets a thread, which
+    /// this one starts.
+    #[cycle(parts)]
+    fn write(&self, first: usize, list: &mut [u64])
+        requires few { length self.now.words.now < 2 ^ 58 }
+        requires share { 0 < self.now.share }
+        requires inside { first ≤ length self.now.words.now }
+        requires room { length list.old ≡ length (addresses_between self.now.words.now first (length self.now.words.now)) }
+        ensures { list.new ≡ addresses_between self.now.words.now first (length self.now.words.now) }
+    {
+        let words = self.words;
+        let rest = words.len() - first;
+        if rest <= self.share {
+            write_between(words, first, words.len(), list);
+            return;
+        }
+        let count = ones_between(words, first, first + self.share);
+        let (low, high) = list.split_at_mut(count);
+        self.write_both(first, low, high);
+    }
+
+    /// Writes the addresses of a share of words from index `first` on, in a new thread, and those of the words after it.
+    #[cycle(parts)]
+    fn write_both(&self, first: usize, low: &mut [u64], high: &mut [u64])
+        requires few { length self.now.words.now < 2 ^ 58 }
+        requires share { 0 < self.now.share }
+        requires inside { first + self.now.share ≤ length self.now.words.now }
+        requires low { length low.old ≡ length (addresses_between self.now.words.now first (first + self.now.share)) }
+        requires high { length high.old
+            ≡ length (addresses_between self.now.words.now (first + self.now.share) (length self.now.words.now)) }
+        ensures low { low.new ≡ addresses_between self.now.words.now first (first + self.now.share) }
+        ensures high { high.new ≡ addresses_between self.now.words.now (first + self.now.share) (length self.now.words.now) }
+    {
+        let words = self.words;
+        let middle = first + self.share;
+        let mut lower = ||
+            requires { (length words.now < 2 ^ 58) × (first ≤ middle) × (middle ≤ length words.now)
+                × (length low.now ≡ length (addresses_between words.now first middle)) }
+            ensures { low.exit.now ≡ addresses_between words.entry.now first middle }
+        { write_between(words, first, middle, low) };
+        let mut upper = ||
+            requires { (length self.now.words.now < 2 ^ 58) × (0 < self.now.share) × (middle ≤ length self.now.words.now)
+                × (length high.now ≡ length (addresses_between self.now.words.now middle (length self.now.words.now))) }
+            ensures { high.exit.now ≡ addresses_between self.entry.now.words.now middle (length self.entry.now.words.now) }
+        { self.write(middle, high) };
+        join_mut(self.threads, &mut lower, &mut upper);
+    }
+}
+
+/// The number of addresses that [`marked_between`] lists.
+fn ones_between(words: &[u64], first: usize, last: usize) -> usize
+    requires few { length words.now < 2 ^ 58 }
+    requires ordered { first ≤ last }
+    requires inside { last ≤ length words.now }
+    ensures { result ≡ length (addresses_between words.now first last) }
+{
+    ones_of(&words[first..last]) as usize
+}
+
+/// Writes the addresses that [`marked_between`] lists to a slice that has room for just these.
+fn write_between(words: &[u64], first: usize, last: usize, list: &mut [u64])
+    requires few { length words.now < 2 ^ 58 }
+    requires ordered { first ≤ last }
+    requires inside { last ≤ length words.now }
+    requires room { length list.old ≡ length (addresses_between words.now first last) }
+    ensures { list.new ≡ addresses_between words.now first last }
+{
+    let mut next = 0;
+    for index in first..last {
+        next = write_ones(list, next, 64 * index as u64, words[index]);
+    }
+}
+
+/// Writes the indices of the bits that are set in a word, ascending, each plus `base`, from index `first` of the list
+/// on. Returns the index after them.
+fn write_ones(list: &mut [u64], first: usize, base: u64, word: u64) -> usize
+    requires base { base + 64 ≤ 2 ^ 64 }
+    requires room { first + length (ones_of word) ≤ length list.old }
+    ensures next { result ≡ first + length (ones_of word) }
+    ensures room { length list.new ≡ length list.old }
+    ensures written { take result list.new ≡ take first list.old ++ map (λ j. base + j) (ones_of word) }
+{
+    let mut next = first;
+    let mut rest = word;
+    while rest != 0 {
+        let place = u64::from(rest.trailing_zeros());
+        list[next] = base + place;
+        next += 1;
+        rest &= !(1 << place);
+    }
+    next
+}
+
+/// The addresses of the set of these words from the word with index `first` up to that with index `last`, ascending.
+fn marked_between(
+    alloc: Global,
+    words: &[u64],
+    first: usize,
+    last: usize,
+) -> Result<Vec<u64>, AllocError>
+    requires few { length words.now < 2 ^ 58 }
+    requires ordered { first ≤ last }
+    requires inside { last ≤ length words.now }
+    ensures { IfOk result (λ live. live.items ≡ addresses_between words.now first last) }
+{
+    let mut live = Vec::with_capacity(alloc, ones_between(words, first, last))?;
+    for index in first..last {
+        push_ones(&mut live, 64 * index as u64, words[index])?;
+    }
+    Ok(live)
+}
+
+/// Appends the indices of the bits that are set in a word, ascending, each plus `base`.
+fn push_ones(live: &mut Vec<u64>, base: u64, word: u64) -> Result<(), AllocError>
+    requires { base + 64 ≤ 2 ^ 64 }
+    ensures { OnOk result (live.new.items ≡ live.old.items ++ map (λ j. base + j) (ones_of word)) }
+{
+    let mut rest = word;
+    while rest != 0 {
+        let place = u64::from(rest.trailing_zeros());
+        live.push(base + place)?;
+        rest &= !(1 << place);
+    }
+    Ok(())
+}

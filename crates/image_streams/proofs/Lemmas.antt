@@ -1,0 +1,7 @@
+pub mod Known
+pub mod Pieces
+pub mod Counts
+pub mod Reading
+pub mod Sending
+pub mod Bodies
+pub mod Extents

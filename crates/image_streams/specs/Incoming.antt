@@ -1,0 +1,26 @@
+-- The numbers of a body that are still to be read.
+use Rattle.std.specs.Prelude.{ℕ, ◌+◌, ◌-◌, ◌*◌, ◌<◌, ◌≤◌, List, Option, IfSome, length, slice_range}
+use Rattle.std.specs.Io.KnownBytes.{IsAtEnd, prepend_known}
+use Rattle.image_streams.specs.declared.numbers.incoming.Incoming.{Incoming}
+
+-- the buffer has room for at least one number, and the buffered numbers are within it
+pub record IsInRange (i : Incoming) : Type 0 where
+  pub some : 8 ≤ length i.bytes.now
+  pub ordered : i.start ≤ i.end
+  pub within : 8 * i.end ≤ length i.bytes.now
+
+-- the bytes of the buffered numbers
+abbrev pub unread_bytes : Incoming → List ℕ
+unread_bytes i = slice_range i.bytes.now (8 * i.start) (8 * i.end)
+
+-- the number of numbers that are still to be read
+abbrev pub expected : Incoming → ℕ
+expected i = i.end - i.start + i.due
+
+-- the known bytes that are still to be read: those in the buffer, and those that the device has left
+abbrev pub known_rest : Incoming → Option (List ℕ) → Option (List ℕ)
+known_rest i left = prepend_known (unread_bytes i) left
+
+-- the device is at its end, and the known bytes were too few for this number of numbers
+abbrev pub FallsShort : Option (List ℕ) → Option (List ℕ) → ℕ → Type 0
+FallsShort rest left count = IsAtEnd left × IfSome rest (λ bytes. length bytes < 8 * count)

@@ -1,0 +1,21 @@
+-- The regions of a body that is read, and the pool that they come from.
+use Rattle.std.specs.Prelude.{◌≡◌, ℕ, ◌+◌, ◌^◌, ◌<◌, ◌≤◌, IfSome}
+use Rattle.raw_region.specs.Frame.{FrameView}
+use Rattle.image_streams.specs.declared.body_size.BodySize.{BodySize}
+use Rattle.image_streams.specs.declared.region_source.RegionSource.{RegionSource}
+
+-- the pool has the regions of a body of this size
+pub record IsPoolOf (size : BodySize) (pool : FrameView) : Type 0 where
+  pub words : pool.size ≡ 2 ^ size.region_log
+  pub count : pool.count ≡ size.regions
+
+-- the pool, if there is one, has this number of regions of so many words, from the first on
+pub record HasRegions (source : RegionSource) (size count : ℕ) : Type 0 where
+  pub words : IfSome source.pool (λ pool. pool.now.size ≡ size)
+  pub inside : IfSome source.pool (λ pool. source.first + count ≤ pool.now.count)
+  pub fits : source.first + count < 2 ^ 64
+
+-- the source has the regions of a body of this size, which are the last ones of the pool, if there is one
+pub record HasRest (source : RegionSource) (size : BodySize) : Type 0 where
+  pub regions : HasRegions source (2 ^ size.region_log) size.regions
+  pub last : IfSome source.pool (λ pool. source.first + size.regions ≡ pool.now.count)

@@ -1,0 +1,14 @@
+pub mod Places
+pub mod Masks
+pub mod Words
+pub mod Counts
+pub mod Firsts
+pub mod Absent
+pub mod BlockWords
+pub mod RegionLogs
+pub mod Apart
+pub mod Listed
+pub mod Reaches
+pub mod RootsToLive
+pub mod RootLive
+pub mod ObjectFaults
