@@ -1,7 +1,6 @@
 //! Laws of images and their texts, for callers' proofs, which have no other way to them. The functions do nothing: each one's
 //! contract is a law.
-ghost use Rattle.std.specs.Prelude.{◌≡◌, ◌+◌, ◌-◌, ◌*◌, ◌/◌, ◌%◌, ◌^◌, ◌<◌, ◌≤◌, ◌==◌, ◌||◌, ◌⊎◌, ℕ, List, Bool, true, false, [], Option, Some, None, Result, Ok, Err, All, IsTrue, IfSome, IfOk, IfErr, OnOk, filter, map, length, set, slice_index_or, bit_and, bit_or};
-ghost use Rattle.std.specs.List.{concat, range_with_len};
+ghost use Rattle.std.specs.Prelude.{◌≡◌, ◌*◌, ◌⊎◌, ℕ, List, true, false, [], Option, Some, None, Result, Ok, Err, IfSome, IfOk, IfErr, OnOk, length};
 ghost use Rattle.std.specs.Io.KnownBytes.{Consumes, IsAtEnd};
 ghost use Rattle.image_streams.specs.Device.{is_io};
 ghost use Rattle.heap_image.specs.Refusals.{IsReason};
@@ -10,12 +9,11 @@ ghost use Rattle.image_streams.specs.declared.fault.Fault.{Fault};
 ghost use Rattle.image_streams.specs.declared.fault.Fault.TheVariants.{Memory};
 ghost use Rattle.object_heap.specs.declared.version.Version.{Version};
 ghost use Rattle.object_heap.specs.declared.version.Version.TheVariants.{Two};
-ghost use Rattle.object_heap.specs.HeapImage.{HeapImage, IsValid, HasLiveList, AreBlocks, heap_words, image_of, is_null_or_live, reachable, versioned_image_of, roots_of};
+ghost use Rattle.object_heap.specs.HeapImage.{HeapImage, IsValid, heap_words, image_of, reachable, versioned_image_of};
 ghost use Rattle.heap_image.specs.ImageText.{text, version_of_magic, encoded_words, with_tail, from_tail, first_some, live_list_faults, FaultlessIsText, TextIsFaultless};
 ghost use Rattle.object_heap.specs.ObjectFaults.{misplaced_index, unsound_header, dangling, beyond};
 ghost use Rattle.image_streams.specs.Numbers.{numbers};
 ghost use Rattle.heap_image.specs.Reading.{HasFittingNumbers};
-ghost use Rattle.object_heap.specs.Reachable.{is_listed, IsClosed};
 
 use crate::image::Image;
 use object_heap::{objects_without_faults, reachable_is_the_least_closed};

@@ -1,7 +1,6 @@
 -- What was marked, as a live list.
-use Rattle.std.proofs.Common.{◌≡◌, ℕ, ◌*◌, ◌≤◌, ◌<◌, inl, inr, true, false, List, ◌∷◌, length, get_or, refl, sym, ◌∙◌, ap, subst, arith, eqb, ltb, Option, Some, None}
-use Rattle.std.proofs.lemmas.Bool.{eq-eqb, cases_lt}
-use Rattle.std.proofs.lemmas.List.Folds.{list_any_at}
+use Rattle.std.proofs.Common.{◌≡◌, ℕ, ◌*◌, ◌≤◌, ◌<◌, inl, inr, false, List, ◌∷◌, length, sym, ◌∙◌, ap, subst, arith, ltb, Option, Some, None}
+use Rattle.std.proofs.lemmas.Bool.{cases_lt}
 use Rattle.std.proofs.lemmas.List.Elements.{All-from_get_or}
 use Rattle.std.specs.Prelude.{All, filter, find, option_map, slice_index}
 use Rattle.std.specs.List.{range_with_len, list_any}

@@ -1,5 +1,5 @@
 -- The first bit from a place on that is not set.
-use Rattle.std.proofs.Common.{◌≡◌, ℕ, zero, suc, ◌+◌, ◌-◌, ◌*◌, ◌/◌, ◌%◌, ◌^◌, ◌≤◌, ◌<◌, inl, inr, Bool, true, false, ◌&&◌, not, eqb, leb, List, length, get_or, drop, Some, None, refl, sym, ◌∙◌, ap, arith, bit_and}
+use Rattle.std.proofs.Common.{◌≡◌, ℕ, zero, suc, ◌+◌, ◌-◌, ◌*◌, ◌/◌, ◌%◌, ◌≤◌, ◌<◌, inl, inr, Bool, true, false, ◌&&◌, not, eqb, leb, List, length, get_or, drop, Some, None, refl, sym, ◌∙◌, ap, arith, bit_and}
 use Rattle.std.specs.Int.{bit_at, w64}
 use Rattle.std.proofs.lemmas.Bool.{true≢false, cases_Bool, cases_lt, and_parts, leb-true, le-leb, eqb-true, eqb-false, ltb-false, not-false, not-true, cond-true}
 use Rattle.std.proofs.lemmas.List.{get_or-drop}

@@ -1,5 +1,5 @@
 -- The live list of a sound image is a list of spans that do not overlap.
-use Rattle.std.proofs.Common.{◌≡◌, ℕ, suc, ◌+◌, ◌≤◌, ◌<◌, List, [], ◌∷◌, length, get_or, subst, arith, add-one}
+use Rattle.std.proofs.Common.{ℕ, suc, ◌+◌, ◌≤◌, ◌<◌, List, [], ◌∷◌, length, get_or, subst, arith, add-one}
 use Rattle.std.specs.List.{AllAdjacentBelow}
 use Rattle.object_heap.specs.HeapImage.{HeapImage, HasLiveList, size_at}
 

@@ -1,5 +1,5 @@
 -- The roots of an image with roots.
-use Rattle.std.proofs.Common.{◌≡◌, ℕ, ◌+◌, ◌-◌, ◌^◌, ◌≤◌, ◌<◌, inl, inr, true, List, [], length, get_or, ◌∙◌, ap, arith, eqb}
+use Rattle.std.proofs.Common.{◌≡◌, ℕ, ◌+◌, ◌-◌, ◌≤◌, ◌<◌, inl, inr, true, List, [], length, get_or, ◌∙◌, ap, arith, eqb}
 use Rattle.std.proofs.lemmas.Bool.{cases_eq, eq-eqb, or_left, or_right}
 use Rattle.std.proofs.lemmas.List.Elements.{All-from_get_or}
 use Rattle.std.specs.Prelude.{All, IsTrue, Option, None, Some, IfSome}

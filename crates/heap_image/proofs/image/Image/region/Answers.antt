@@ -1,6 +1,5 @@
 use Rattle.std.proofs.Common.{◌<◌, ap, ◌∙◌, sym, subst, arith, []}
 use Rattle.std.proofs.lemmas.List.{get_or_default}
-use Rattle.std.specs.Prelude.{option_map}
 use Rattle.object_heap.specs.HeapImage.{region_count, block_of}
 use Rattle.heap_image.proofs.image.Image.region.Goals as goal
 
