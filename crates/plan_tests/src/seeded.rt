@@ -7,10 +7,11 @@ use crate::known_heaps::image_of;
 use heap_image::{Fault, Image};
 use heap_samples::Object;
 use mark_bitmap::Marks;
+use plain_compaction::compact_plainly;
 use std::alloc::{AllocError, Global};
 use std::test::Fail;
 use std::thread::Threads;
-use summary::{Plan, RegionData, Survey, compact_plainly};
+use summary::{Plan, RegionData, Survey};
 
 /// A pseudo-random generator with a fixed seed.
 #[derive(Drop)]
