@@ -1,7 +1,7 @@
 ghost use Rattle.std.specs.Prelude.{◌≡◌, ◌≢◌, ◌⊎◌, codes, ℕ, List, IfOk, IfErr, OnErr, string_bytes};
 ghost use Rattle.image_streams.specs.declared.fault.Fault.{Fault};
-ghost use Rattle.collector.specs.Streams.{IsTextBegun};
-ghost use Rattle.collection_commands.specs.Collect.{IsCollection, IsFirstOfBytes};
+ghost use Rattle.collector.specs.Streams.{IsTextBegun, IsFirstOfBytes};
+ghost use Rattle.collection_commands.specs.Collect.{IsCollection};
 ghost use Rattle.collection_commands.specs.Figures.{IsFigures, figures_line};
 
 use crate::collection::{Run, collect_files};

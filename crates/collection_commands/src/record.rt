@@ -1,7 +1,6 @@
 ghost use Rattle.std.specs.Prelude.{◌≡◌, ◌≢◌, ◌⊎◌, codes, ℕ, List, IfOk, IfErr, OnErr, string_bytes};
 ghost use Rattle.image_streams.specs.declared.fault.Fault.{Fault};
-ghost use Rattle.collector.specs.Streams.{IsTextBegun, IsTextWritten};
-ghost use Rattle.collection_commands.specs.Collect.{IsFirstOfBytes};
+ghost use Rattle.collector.specs.Streams.{IsTextBegun, IsFirstOfBytes, IsTextWritten};
 ghost use Rattle.collection_commands.specs.Record.{IsRecording};
 ghost use Rattle.collection_commands.specs.Figures.{IsFigures, figures_line};
 
@@ -167,7 +166,7 @@ pub fn record_into<
     // Only the devices stop it once it writes.
     ensures nothing_yet { IfErr result (λ fault. fault ≢ Fault.Io
         → (output.new ≡ output.old) × (lines.new ≡ lines.old)) }
-    ensures fault { IfErr result (λ fault. IsFirstOfBytes (I.left input.old) fault) }
+    ensures fault { IfErr result (IsFirstOfBytes (I.left input.old)) }
 {
     let alloc = rt.alloc();
     let line = String::with_capacity(alloc, LINE_ROOM)?;

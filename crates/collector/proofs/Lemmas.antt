@@ -1,4 +1,3 @@
-pub mod Queues
 pub mod Passes
 pub mod Settled
 pub mod Failing

@@ -1,5 +1,3 @@
-pub mod Ready
-pub mod ReadyKinds
 pub mod Halts
 pub mod Collections
 pub mod Streams

@@ -1,8 +1,8 @@
 -- A collection from bytes to bytes.
-use Rattle.std.specs.Prelude.{◌≡◌, ℕ, List, Option}
+use Rattle.std.specs.Prelude.{◌≡◌, ℕ, List, Option, Some, IfSome}
 use Rattle.std.specs.Io.KnownBytes.{Appends}
 use Rattle.object_heap.specs.HeapImage.{HeapImage}
-use Rattle.heap_image.specs.ImageText.{text}
+use Rattle.heap_image.specs.ImageText.{text, first_fault}
 use Rattle.heap_image.specs.Reading.{IsRead}
 use Rattle.image_streams.specs.Outgoing.{TakesBeginning}
 use Rattle.image_streams.specs.declared.fault.Fault.{Fault}
@@ -12,6 +12,7 @@ use Rattle.scheduler.specs.Schedule.{ScheduleView}
 use Rattle.history.specs.ScheduleText.{schedule_text}
 use Rattle.history.specs.Record.{IsRecord}
 use Rattle.collector.specs.Collections.{figures_of}
+use Rattle.collector.specs.Halts.{MayRefuse}
 use Rattle.collector.specs.declared.outcome.Figures.{Figures}
 
 -- a fault of an image's bytes: one of 1 to 10, or 17
@@ -28,6 +29,14 @@ IsOfBytes (Overlap a) = Unit {0}
 IsOfBytes (Reference a f) = Unit {0}
 IsOfBytes Trailing = Unit {0}
 IsOfBytes _ = ⊥
+
+-- a fault of an image's bytes is the first fault of the input
+abbrev pub IsFirstOfBytes : Option (List ℕ) → Fault → Type 0
+IsFirstOfBytes input fault = IsOfBytes fault → IfSome input (λ bytes. first_fault bytes ≡ Some fault)
+
+-- all of the input was read, the text of some image, of which a worker may be refused a region
+abbrev pub MayRefuseRead : Option (List ℕ) → Option (List ℕ) → (ℕ → ℕ → Type 0) → ℕ → Type 0
+MayRefuseRead left left' may_refuse workers = (image : HeapImage) × IsRead image left left' × MayRefuse may_refuse workers image
 
 -- all of the input was read, the text of some image, and a prefix of the text of its compaction was written
 pub record IsTextBegun (left left' took took' : Option (List ℕ)) : Type 0 where

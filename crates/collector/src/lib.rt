@@ -1,4 +1,5 @@
-//! A full collection by many workers. It passes on the calls of `verification`, the check of a collected image.
+//! A full collection by many workers. It passes on the calls of `verification`, the check of a collected image, and of
+//! `ready_queues`, the queues of the workers.
 //!
 //! - [`collect`] compacts an image with 1 to 64 workers, each in a thread of its own if one can be started.
 //!   [`collect_stream`] does so from bytes to bytes.
@@ -7,9 +8,6 @@
 //!   [`Share`] for each, [`Share::work`] fills regions, and [`Share::end`] returns the compaction.
 //! - [`record`] collects as `collect` does, and returns the schedule of everything that the workers did.
 //!   [`record_stream`] does so from bytes to bytes.
-//! - [`Ready`] holds the regions that one worker has found ready to be filled, first in first out. Its room is reserved
-//!   when it is made, so that no push allocates. Others steal from it through a [`Thief`]; [`Ready::take`] tries the
-//!   worker's own queue and then all others.
 //! - [`Gate`] admits each fill and is notified of its completion. [`OpenGate`] refuses nothing.
 //! - [`an_upgrade_is_collected_alike`] is the law that a heap is collected alike in both versions.
 //!
@@ -25,17 +23,15 @@
 //! the word machine allows and that settles all regions to fill; `record_stream` writes the texts of both, and nothing
 //! before `record` has succeeded.
 //!
-//! `push` returns true exactly while fewer numbers than the room were pushed, and then the number is queued after the
-//! earlier ones; what `pop` returns was pushed. A gate refuses only where it states that it may.
+//! A gate refuses only where it states that it may.
 //!
 //! # What is only tested, or not stated
 //!
 //! That a collection ends, that several threads run, and that fault 15 does not come: tests with gates cover this. That
 //! the fault returned is the lowest worker's: this is proved of the function that picks it, and stated by no public
-//! contract. That the schedule of `record` is what its own workers did: tests force orders by a gate. That what a
-//! `Thief` takes was pushed, and that each number is taken once: a test steals with two threads. The order in which
-//! `take` tries the queues. That the workers of `record` begin together: a test counts those that have a share of a
-//! small heap. No contract says how long a call takes.
+//! contract. That the schedule of `record` is what its own workers did: tests force orders by a gate. That the workers
+//! of `record` begin together: a test counts those that have a share of a small heap. No contract says how long a call
+//! takes.
 #![tactic(auto)]
 
 mod collection;
@@ -53,6 +49,7 @@ pub use collection::streaming::collect_stream;
 pub use gate::{Gate, OpenGate};
 pub use laws::an_upgrade_is_collected_alike;
 pub use outcome::{Figures, Outcome, Refusal};
+pub use ready_queues::{Ready, Thief};
 pub use session::Session;
 pub use session::progress::Progress;
 pub use session::share::Share;
@@ -61,5 +58,4 @@ pub use verification::{
     Verdict, explain, verify, verify_below_top,
 };
 pub use workers::Workers;
-pub use workers::ready::{Ready, Thief};
 pub use workers::worker::Halt;

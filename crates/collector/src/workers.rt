@@ -1,5 +1,4 @@
 pub(crate) mod crew;
-pub(crate) mod ready;
 pub(crate) mod staff;
 pub(crate) mod start_line;
 pub(crate) mod worker;

@@ -5,11 +5,12 @@ use collector::{Figures, Gate, Outcome, Verdict, collect, record, verify};
 use heap_image::{Fault, Image, decode_by_threads, encode};
 use heap_samples::{BASE_LIVE, BASE_WORDS, Settings, image_of};
 use history::{End, Schedule, replay};
+use plain_compaction::compact_plainly;
 use std::alloc::Global;
 use std::sync::Wait;
 use std::test::Fail;
 use std::thread::Threads;
-use summary::{Survey, compact_plainly};
+use summary::Survey;
 
 /// The header of an object of `size` words without references.
 const fn plain(size: u64) -> u64 {

@@ -3,10 +3,10 @@ use crate::checks::equal_at;
 use crate::seeded::seeded_text;
 use collector::{Verdict, verify};
 use heap_image::{Fault, Image, decode_by_threads};
+use plain_compaction::compact_plainly;
 use std::alloc::Global;
 use std::test::Fail;
 use std::thread::Threads;
-use summary::compact_plainly;
 
 /// The verdicts on this seed's heap, compared with its plain compaction and with itself.
 fn verdicts(

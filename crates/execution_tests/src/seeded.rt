@@ -7,11 +7,12 @@ use crate::heaps::{Heap, fill, heap_of, joined, moved_and_compacted};
 use claim_board::Pass;
 use heap_image::{Fault, Image};
 use heap_samples::{DEAD, Seed, Settings, image_of};
+use plain_compaction::compact_plainly;
 use std::alloc::{AllocError, Global};
 use std::sync::Wait;
 use std::test::Fail;
 use std::thread::Threads;
-use summary::{Plan, compact_plainly};
+use summary::Plan;
 
 /// The address and the size of an object, in words.
 type Object = (u64, u64);

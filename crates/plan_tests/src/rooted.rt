@@ -3,10 +3,10 @@ use crate::checks::holds_at;
 use crate::known_heaps::BASE;
 use heap_image::{Image, Version, decode_by_threads};
 use heap_samples::{Settings, plain_words, rooted_text};
+use plain_compaction::compact_plainly;
 use std::alloc::Global;
 use std::test::Fail;
 use std::thread::Threads;
-use summary::compact_plainly;
 
 /// An allowance and roots of the base heap, and the roots and live addresses of its compaction.
 type Row = (u64, &'static [u64], &'static [u64], &'static [u64]);

@@ -7,10 +7,11 @@ use crate::known_heaps::image_of;
 use heap_image::{Fault, Image};
 use heap_samples::{Object, Seed};
 use mark_bitmap::Marks;
+use plain_compaction::compact_plainly;
 use std::alloc::{AllocError, Global};
 use std::test::Fail;
 use std::thread::Threads;
-use summary::{Plan, RegionData, Survey, compact_plainly};
+use summary::{Plan, RegionData, Survey};
 
 /// The number of dead words before the next object: mostly none, and at times up to three regions.
 fn gap(seed: &mut Seed, region_words: u64) -> u64 {

@@ -4,15 +4,15 @@ use crate::checks::holds;
 use crate::devices::Checked;
 use crate::texts::with_prefix;
 use collector::{
-    Found, OpenGate, Ready, Refusal, Verdict, collect, collect_stream, explain, verify,
-    verify_below_top,
+    Found, OpenGate, Refusal, Verdict, collect, collect_stream, explain, verify, verify_below_top,
 };
 use heap_image::{Fault, FromRead, Image, ToWrite, decode_by_threads, encode};
 use heap_samples::Base;
+use plain_compaction::compact_plainly;
+use ready_queues::Ready;
 use std::alloc::{AllocError, Global};
 use std::sync::Wait;
 use std::thread::Threads;
-use summary::compact_plainly;
 
 /// A base heap with allowance 2.
 pub(crate) fn image(

@@ -1,7 +1,7 @@
 //! The queues of ready regions: what two threads steal, and the order in which a worker tries the queues.
 use crate::checks::{equal, holds};
-use collector::{Ready, Thief};
 use crossbeam_deque::Steal;
+use ready_queues::{Ready, Thief};
 use std::alloc::{AllocError, Global};
 use std::test::Fail;
 use std::thread;

@@ -4,9 +4,9 @@ use heap_image::{Fault, Image, decode_by_threads, encode};
 use heap_samples::{
     BASE_WORDS, Base, MOVED_LIVE, MOVED_ROOTS, MOVED_WORDS, Settings, image_text, rooted_text,
 };
+use plain_compaction::compact_plainly;
 use std::alloc::{AllocError, Global};
 use std::thread::Threads;
-use summary::compact_plainly;
 
 /// The text of an image, and that of its compaction.
 #[derive(Drop)]

@@ -3,8 +3,6 @@ pub mod LiveWords
 mod Rows
 mod TargetRows
 pub mod Graph
-pub mod PlainWords
-pub mod Nexts
 pub mod Layouts
 pub mod Telling
 pub mod Prefix

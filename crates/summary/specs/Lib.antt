@@ -6,7 +6,6 @@ pub mod Compaction
 pub mod RegionData
 pub mod Updates
 pub mod SameGraph
-pub mod Placement
 pub mod Layout
 pub mod Sources
 pub mod Report

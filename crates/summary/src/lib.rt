@@ -10,9 +10,6 @@
 //! order and don't overlap, only live words lie between the prefix end and the new top, each reference still leads to
 //! the same object, and the compacted heap is valid.
 //!
-//! [`compact_plainly`] is the compaction as a plain slow program, for tests. Its result is proved to be the compaction
-//! of the definitions, word for word.
-//!
 //! # What a contract sees
 //!
 //! A contract sees a plan as the image that it was made of, as it was then: `plan.now ≡ image.now` says that this is
@@ -25,7 +22,6 @@
 #![tactic(auto)]
 
 pub mod laws;
-mod plainly;
 mod plan;
 mod reads;
 mod region_data;
@@ -34,7 +30,6 @@ mod report_text;
 mod stride;
 mod survey;
 
-pub use plainly::compact_plainly;
 pub use plan::{Plan, report};
 pub use reads::Reads;
 pub use region_data::RegionData;

@@ -1,8 +1,7 @@
-ghost use Rattle.std.specs.Prelude.{◌≡◌, IsTrue, IfOk, IfErr, IfSome, Some, Err};
-ghost use Rattle.heap_image.specs.ImageText.{first_fault};
+ghost use Rattle.std.specs.Prelude.{◌≡◌, IsTrue, IfOk, IfErr, Err};
 ghost use Rattle.heap_image.specs.Reading.{IsRead};
 ghost use Rattle.heap_image.specs.Refusals.{IsOfReading};
-ghost use Rattle.collector.specs.Streams.{IsOfBytes};
+ghost use Rattle.collector.specs.Streams.{IsFirstOfBytes};
 
 use heap_image::{Fault, Image, Intake, read_image_by_workers};
 use std::alloc::Global;
@@ -17,8 +16,7 @@ pub(crate) fn read_whole<R: Intake>(
     threads: &(impl Threads + Sync),
 ) -> Result<Image, Fault>
     ensures read { IfOk result (λ image. IsRead image (R.left reader.old) (R.left reader.new)) }
-    ensures bytes { IfErr result (λ fault. IsOfBytes fault
-        → IfSome (R.left reader.old) (λ input. first_fault input ≡ Some fault)) }
+    ensures bytes { IfErr result (IsFirstOfBytes (R.left reader.old)) }
     ensures device { result ≡ Err Fault.Io → IsTrue (R.has_failed reader.new) }
     ensures kind { IfErr result IsOfReading }
 {

@@ -1,11 +1,7 @@
-ghost use Rattle.std.specs.Prelude.{◌≡◌, ◌≢◌, ◌⊎◌, IsTrue, IfOk, OnErr, IfErr, IfSome, MatchResult, Some, Err};
-ghost use Rattle.object_heap.specs.HeapImage.{HeapImage};
-ghost use Rattle.heap_image.specs.ImageText.{first_fault};
-ghost use Rattle.heap_image.specs.Reading.{IsRead};
+ghost use Rattle.std.specs.Prelude.{◌≡◌, ◌≢◌, ◌⊎◌, IsTrue, IfOk, OnErr, IfErr, MatchResult, Err};
 ghost use Rattle.heap_image.specs.Refusals.{IsOfReading};
 ghost use Rattle.collector.specs.Collections.{AreNoneOrTooMany};
-ghost use Rattle.collector.specs.Halts.{MayRefuse};
-ghost use Rattle.collector.specs.Streams.{AreRecorded, IsTextBegun, IsOfBytes, IsTextWritten};
+ghost use Rattle.collector.specs.Streams.{AreRecorded, IsTextBegun, IsFirstOfBytes, IsTextWritten, MayRefuseRead};
 
 use super::reading::read_whole;
 use super::recording::record;
@@ -51,17 +47,15 @@ pub fn record_stream<
         ⊎ IsTextWritten (R.left reader.old) (R.left reader.new) (O.took writer.old) (O.took writer.new)) }
     ensures nothing_yet { IfErr result (λ fault. fault ≢ Fault.Io
         → (writer.new ≡ writer.old) × (lines.new ≡ lines.old)) }
-    ensures bytes { IfErr result (λ fault. IsOfBytes fault
-        → IfSome (R.left reader.old) (λ input. first_fault input ≡ Some fault)) }
+    ensures bytes { IfErr result (IsFirstOfBytes (R.left reader.old)) }
     ensures device { result ≡ Err Fault.Io → IsTrue (R.has_failed reader.new)
         ⊎ (IsTrue (O.has_failed writer.new) ⊎ IsTrue (L.has_failed lines.new)) }
     ensures workers { result ≡ Err Fault.Workers → AreNoneOrTooMany workers.entry.count }
     // Unless the input is refused, a number of workers that isn't 1 to 64 is.
     ensures refused { AreNoneOrTooMany workers.entry.count → MatchResult result (λ figures. ⊥)
         (λ fault. (fault ≡ Fault.Workers) ⊎ IsOfReading fault) }
-    ensures gate { result ≡ Err Fault.Gate → (image : HeapImage)
-        × IsRead image (R.left reader.old) (R.left reader.new)
-        × MayRefuse (G.may_refuse workers.entry.gate.now) workers.entry.count image }
+    ensures gate { result ≡ Err Fault.Gate → MayRefuseRead (R.left reader.old) (R.left reader.new)
+        (G.may_refuse workers.entry.gate.now) workers.entry.count }
 {
     let Workers {
         count,

@@ -1,13 +1,12 @@
-ghost use Rattle.std.specs.Prelude.{◌≡◌, ◌≢◌, ◌⊎◌, ℕ, IsTrue, IfOk, OnErr, IfErr, IfSome, MatchResult, Some, Err};
+ghost use Rattle.std.specs.Prelude.{◌≡◌, ◌≢◌, ◌⊎◌, ℕ, IsTrue, IfOk, OnErr, IfErr, MatchResult, Err};
 ghost use Rattle.std.specs.Io.KnownBytes.{Appends};
 ghost use Rattle.object_heap.specs.HeapImage.{HeapImage};
-ghost use Rattle.heap_image.specs.ImageText.{text, first_fault};
+ghost use Rattle.heap_image.specs.ImageText.{text};
 ghost use Rattle.summary.specs.Compaction.{compact};
 ghost use Rattle.collector.specs.Collections.{figures_of, fault_of, AreNoneOrTooMany};
-ghost use Rattle.collector.specs.Halts.{MayRefuse};
 ghost use Rattle.heap_image.specs.Reading.{IsRead};
 ghost use Rattle.heap_image.specs.Refusals.{IsOfReading};
-ghost use Rattle.collector.specs.Streams.{IsTextBegun, IsOfBytes};
+ghost use Rattle.collector.specs.Streams.{IsTextBegun, IsFirstOfBytes, MayRefuseRead};
 
 use super::collect;
 use super::reading::read_whole;
@@ -41,17 +40,15 @@ pub fn collect_stream<R: Intake, O: Outlet, G: Gate + Sync, T: Threads + Sync, W
     ensures written { OnErr result ((writer.new ≡ writer.old)
         ⊎ IsTextBegun (R.left reader.old) (R.left reader.new) (O.took writer.old) (O.took writer.new)) }
     ensures nothing_yet { IfErr result (λ fault. fault ≢ Fault.Io → writer.new ≡ writer.old) }
-    ensures bytes { IfErr result (λ fault. IsOfBytes fault
-        → IfSome (R.left reader.old) (λ input. first_fault input ≡ Some fault)) }
+    ensures bytes { IfErr result (IsFirstOfBytes (R.left reader.old)) }
     ensures device { result ≡ Err Fault.Io
         → IsTrue (R.has_failed reader.new) ⊎ IsTrue (O.has_failed writer.new) }
     ensures workers { result ≡ Err Fault.Workers → AreNoneOrTooMany workers }
     // Unless the input is refused, a number of workers that isn't 1 to 64 is.
     ensures refused { AreNoneOrTooMany workers → MatchResult result (λ figures. ⊥)
         (λ fault. (fault ≡ Fault.Workers) ⊎ IsOfReading fault) }
-    ensures gate { result ≡ Err Fault.Gate → (image : HeapImage)
-        × IsRead image (R.left reader.old) (R.left reader.new)
-        × MayRefuse (G.may_refuse gate.now) workers image }
+    ensures gate { result ≡ Err Fault.Gate
+        → MayRefuseRead (R.left reader.old) (R.left reader.new) (G.may_refuse gate.now) workers }
     ensures schedule { IfErr result (λ fault. (line : ℕ) → fault ≢ Fault.Schedule line) }
 {
     let image = read_whole(alloc, reader, workers, threads)?;

@@ -7,7 +7,6 @@ ghost use Rattle.collector.specs.Halts.{MayHalt, MayBeRefused};
 ghost use Rattle.fill.specs.FillFaults.{IsFaultOf};
 ghost use Rattle.collector.specs.declared.workers.worker.Halt.TheVariants.{Stopped};
 
-use super::ready::Thief;
 use super::start_line::StartLine;
 use super::worker::{Halt, Worker};
 use crate::gate::Gate;
@@ -16,6 +15,7 @@ use claim_board::{Desk, Done, Ticket};
 use crossbeam_utils::Backoff;
 use fill::fill_region;
 use heap_image::Fault;
+use ready_queues::Thief;
 use region_cells::Cells;
 use retry_policy::RetryPolicy;
 use scheduler::moves_of_images;

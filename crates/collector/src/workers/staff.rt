@@ -1,8 +1,8 @@
 ghost use Rattle.std.specs.Prelude.{◌≡◌, ◌<◌, ◌≤◌, [], map, vec_len, IfOk, length};
 ghost use Rattle.std.specs.Vec.{vec_capacity};
 
-use super::ready::{Ready, Thief};
 use super::worker::{Halt, Worker};
+use ready_queues::{Ready, Thief};
 use std::alloc::{AllocError, Global};
 use summary::Plan;
 use summary::laws::plans::planned_image_is_valid;

@@ -2,8 +2,8 @@ ghost use Rattle.std.specs.Prelude.{◌≡◌};
 ghost use Rattle.collector.specs.Halts.{met_fault};
 ghost use Rattle.collector.specs.declared.workers.worker.Halt.TheVariants.{Failed};
 
-use super::ready::Ready;
 use heap_image::Fault;
+use ready_queues::Ready;
 
 /// One worker of a collection, which fills regions and calls its desk from a seat of its own.
 pub(crate) struct Worker<S> {

@@ -13,8 +13,8 @@ use Rattle.claim_board.specs.contracts.pass.Pass as Pass
 use Rattle.claim_board.proofs.board.Board.TheSendSync as board
 use Rattle.claim_board.proofs.pass.Pass.TheSendSync as pass
 use Rattle.region_cells.proofs.cells.Cells.TheSendSync as cells
-use Rattle.collector.specs.contracts.workers.ready.Thief as Thief
-use Rattle.collector.proofs.workers.ready.Thief.TheSendSync as thief
+use Rattle.ready_queues.specs.contracts.ready.Thief as Thief
+use Rattle.ready_queues.proofs.ready.Thief.TheSendSync as thief
 use Rattle.collector.proofs.workers.worker.Worker.TheSendSync as worker
 use Rattle.collector.specs.contracts.session.Session as Session
 use Rattle.collector.specs.contracts.session.share.Share as Share

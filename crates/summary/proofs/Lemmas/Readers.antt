@@ -93,29 +93,13 @@ module _ (image : HeapImage) (sound : HasLiveList image) where
       let h = origin-Some image sound p q e in
       word_reads (region_of image p) (region_of image q) q h.0 (ap (region_of image) h.1) refl
 
-  pub reads-origin : (d s : ℕ) → reads image d s ≡ true → (p : ℕ) × (q : ℕ) × (origin image p ≡ Some q) × (region_of image p ≡ d) × (region_of image q ≡ s)
-  reads-origin d s h =
-      let w = reads-word d s h in
-      (slid image w.0, w.0, origin-slid image sound w.0 (live_below image sound w.0 w.1) w.1, w.2, w.3)
-
-  -- an origin lies at its address or above, and origins keep the order of addresses
+  -- an origin lies at its address or above
   pub origin-up : (p q : ℕ) → origin image p ≡ Some q → p ≤ q
   origin-up p q e =
       let h = origin-Some image sound p q e in
       let to : slid image q ≡ p = h.1 in
       let down = slid-le image q in
       omega arith
-
-  pub origin-ordered : (p q r t : ℕ) → origin image p ≡ Some q → origin image r ≡ Some t → p < r → q < t
-  origin-ordered p q r t e f l =
-      let h = origin-Some image sound p q e in
-      let k = origin-Some image sound r t f in
-      let to : slid image q ≡ p = h.1 in
-      let on : slid image t ≡ r = k.1 in
-      elim (cases_lt q t) [
-        | inl fine ↦ fine
-        | inr less ↦ let up = slid-ordered image t q k.0 less in let no : ⊥ = omega arith in absurd no
-      ]
 
   pub origin-below : (p q : ℕ) → origin image p ≡ Some q → p < new_top image
   origin-below p q e =

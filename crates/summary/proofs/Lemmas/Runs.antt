@@ -1,13 +1,13 @@
 -- Runs of live or dead words, and whole objects at their new addresses.
 use Rattle.std.proofs.Common.{◌≡◌, ℕ, ◌+◌, ◌-◌, ◌≤◌, ◌<◌, inl, inr, Bool, true, false, cond, ◌&&◌, length, get_or, refl, sym, ◌∙◌, ap, arith, ltb, add-zero, ◌∷◌, zero, suc}
-use Rattle.std.proofs.lemmas.Bool.{cases_lt, cases_order, cond-true, cond-false, lt-ltb, le-ltb, false_from_ne_true}
-use Rattle.std.specs.Prelude.{map, not, slice_range, Some, replicate}
+use Rattle.std.proofs.lemmas.Bool.{cases_lt, cond-true, cond-false, lt-ltb, le-ltb}
+use Rattle.std.specs.Prelude.{map, slice_range, Some, replicate}
 use Rattle.std.specs.List.{range_with_len}
 use Rattle.object_heap.specs.HeapImage.{HeapImage, HasLiveList, heap_words, word_at, size_at, end_of, region_words, region_of, start_of, is_live_word, live_words}
 use Rattle.summary.specs.NewAddresses.{prefix_end, new_address, new_top}
 use Rattle.summary.specs.WordMoves.{slid, origin}
 use Rattle.summary.specs.RegionData.{destination, data_words}
-use Rattle.summary.specs.Compaction.{compact, compacted_word, moved, moved_word, written, carried, redirected, is_reference_of, is_deferred, object_image}
+use Rattle.summary.specs.Compaction.{compact, compacted_word, moved, moved_word, written, carried, redirected, is_reference_of, object_image}
 use Rattle.object_heap.specs.Header.{filler_header}
 use Rattle.summary.specs.Fillers.{IsDeadRun, filler_word}
 use Rattle.summary.proofs.Lemmas.Addresses.{prefix_end-le}
@@ -15,11 +15,11 @@ use Rattle.summary.proofs.Lemmas.Fillers.{filler-first, filler-rest, run_inside,
 use Rattle.summary.proofs.Lemmas.Moves.{map-shifted}
 use Rattle.summary.proofs.Lemmas.Destinations.{count_by-none}
 use Rattle.summary.proofs.Lemmas.Origin.{origin-slid}
-use Rattle.summary.proofs.Lemmas.Words.{live_words-add, live_words-le, slid-low, slid-high, slid-below, owner, is_live, live_below, slid-onto}
+use Rattle.summary.proofs.Lemmas.Words.{live_words-add, live_words-le, slid-low, slid-high, slid-below, owner, live_below, slid-onto}
 use Rattle.summary.proofs.Lemmas.Regions.{region_is, data_nth, slid-destination}
-use Rattle.summary.proofs.Lemmas.Blocks.{count_by-all, slice_range-map-range, words-map}
-use Rattle.summary.proofs.Lemmas.Steps.{place-ordered, top-le}
-use Rattle.summary.proofs.Lemmas.Updates.{new_word, reference-owner, moved-carried}
+use Rattle.summary.proofs.Lemmas.Blocks.{count_by-all, slice_range-map-range}
+use Rattle.summary.proofs.Lemmas.Steps.{top-le}
+use Rattle.summary.proofs.Lemmas.Updates.{new_word, reference-owner}
 
 module _ (image : HeapImage) where
   abbrev P : ℕ
@@ -71,12 +71,6 @@ module _ (image : HeapImage) (sound : HasLiveList image) where
   abbrev place : ℕ → ℕ
   place i = get_or image.live i 0
 
-  pub origin-run : (q n j : ℕ) → ((k : ℕ) → k < n → is_live_word image (q + k) ≡ true) → j < n → origin image (slid image q + j) ≡ Some (q + j)
-  origin-run q n j live l =
-      let to = slid-run image q j (λ k m. live k (omega arith)) in
-      let at = live j l in
-      ap (origin image) (sym to) ∙ origin-slid image sound (q + j) (live_below image sound (q + j) at) at
-
   -- the origin of an address to which a region's words go
   pub origin-in_region : (s k : ℕ) → prefix_end image ≤ start_of image s → k < data_words image s → (q : ℕ) × (origin image (destination image s + k) ≡ Some q) × (region_of image q ≡ s) × (live_words image (start_of image s) q ≡ k)
   origin-in_region s k above l =
@@ -87,50 +81,6 @@ module _ (image : HeapImage) (sound : HasLiveList image) where
       let count : live_words image (start_of image s) q ≡ k = w.4 in
       let at : slid image q ≡ destination image s + k = omega arith in
       (q, ap (origin image) (sym at) ∙ origin-slid image sound q (live_below image sound q live) live, region_is (region_words image) s q w.1 w.2, count)
-
-  -- ---- live words by objects
-
-  pub live_words-within : (i a b : ℕ) → i < length image.live → place i ≤ a → a ≤ b → b ≤ end_of image (place i) → live_words image a b ≡ b - a
-  live_words-within i a b l from m to = live_words-all image a b m (λ q n k. is_live image sound i q l (omega arith) (omega arith))
-
-  -- a word that belongs to no object is dead
-  pub dead-between : (i q : ℕ) → i < length image.live → end_of image (place i) ≤ q → (i + 1 < length image.live → q < place (i + 1)) → is_live_word image q ≡ false
-  dead-between i q l from next = false_from_ne_true (is_live_word image q) (λ h.
-      let o = owner image sound q h in
-      let k : ℕ = o.0 in
-      let m : k < length image.live = o.1 in
-      let low : place k ≤ q = o.2 in
-      let high : q < end_of image (place k) = o.3 in
-      let no : ⊥ = elim (cases_order k i) [
-        | inl same ↦ let e : end_of image (place k) ≡ end_of image (place i) = ap (λ j. end_of image (place j)) same in omega arith
-        | inr other ↦ elim other [
-          | inl less ↦ let e = place-ordered image sound k i less l in omega arith
-          | inr more ↦
-              let g : q < place (i + 1) = next (omega arith) in
-              elim (cases_lt (i + 1) k) [
-                | inl over ↦ let e = place-ordered image sound (i + 1) k over m in omega arith
-                | inr at ↦ let e : i + 1 ≡ k = omega arith in let f : place (i + 1) ≡ place k = ap place e in omega arith
-              ]
-        ]
-      ] in no)
-
-  pub dead-before : (q : ℕ) → (0 < length image.live → q < place 0) → is_live_word image q ≡ false
-  dead-before q first = false_from_ne_true (is_live_word image q) (λ h.
-      let o = owner image sound q h in
-      let k : ℕ = o.0 in
-      let m : k < length image.live = o.1 in
-      let low : place k ≤ q = o.2 in
-      let g : q < place 0 = first (omega arith) in
-      let no : ⊥ = elim (cases_lt 0 k) [
-        | inl over ↦ let e = place-ordered image sound 0 k over m in omega arith
-        | inr at ↦ let e : k ≡ 0 = omega arith in let f : place k ≡ place 0 = ap place e in omega arith
-      ] in no)
-
-  pub live_words-between : (i a b : ℕ) → i < length image.live → end_of image (place i) ≤ a → (i + 1 < length image.live → b ≤ place (i + 1)) → live_words image a b ≡ 0
-  live_words-between i a b l from next = live_words-none image a b (λ q m k. dead-between i q l (omega arith) (λ n. let g : b ≤ place (i + 1) = next n in omega arith))
-
-  pub live_words-before : (a b : ℕ) → (0 < length image.live → b ≤ place 0) → live_words image a b ≡ 0
-  live_words-before a b first = live_words-none image a b (λ q m k. dead-before q (λ n. let g : b ≤ place 0 = first n in omega arith))
 
   -- ---- whole objects
 
@@ -185,34 +135,8 @@ module _ (image : HeapImage) (sound : HasLiveList image) where
       ∙ carried-object (λ _. true) i q l (omega arith) (omega arith)
       ∙ ap (λ b. cond b (redirected image (word_at image q)) (word_at image q)) (and_same (is_reference_of image (place i) q) true refl))
 
-  -- and so has the moved heap, unless the object is deferred
-  pub moved-object : (i : ℕ) → i < length image.live → is_deferred image (place i) ≡ false → slice_range (moved image).words (new_address image (place i)) (new_address image (place i) + size_at image (place i)) ≡ object_image image (place i)
-  moved-object i l now = moved_slice (moved_word image) (redirected_of (place i)) i l (λ j k.
-      let q : ℕ = place i + j in
-      moved-carried image sound i j l k
-      ∙ carried-object (λ a. not (is_deferred image a)) i q l (omega arith) (omega arith)
-      ∙ ap (λ b. cond b (redirected image (word_at image q)) (word_at image q)) (and_same (is_reference_of image (place i) q) (not (is_deferred image (place i))) (ap not now)))
-
-  -- a deferred object has its old words there
-  pub moved-deferred : (i : ℕ) → i < length image.live → is_deferred image (place i) ≡ true → slice_range (moved image).words (new_address image (place i)) (new_address image (place i) + size_at image (place i)) ≡ slice_range image.words (place i) (end_of image (place i))
-  moved-deferred i l late =
-      moved_slice (moved_word image) (word_at image) i l (λ j k.
-      let q : ℕ = place i + j in
-      moved-carried image sound i j l k
-      ∙ carried-object (λ a. not (is_deferred image a)) i q l (omega arith) (omega arith)
-      ∙ cond-false (is_reference_of image (place i) q && not (is_deferred image (place i))) (redirected image (word_at image q)) (word_at image q) (and_not (is_reference_of image (place i) q) (is_deferred image (place i)) late))
-      ∙ sym (slice_range-map-range (word_at image) (heap_words image) (place i) (size_at image (place i)) ((sound.sound i 0 l).inside))
-      ∙ ap (λ ws. slice_range ws (place i) (end_of image (place i))) (sym (words-map image))
-    where
-      and_not : (b c : Bool) → c ≡ true → (b && not c) ≡ false
-      and_not true c h = ap not h
-      and_not false c h = refl
-
   pub compacted-top : (p : ℕ) → new_top image ≤ p → compacted_word image p ≡ 0
   compacted-top p l = cond-false (ltb p (new_top image)) (written image (λ _. true) (origin image p) p) 0 (le-ltb p (new_top image) l)
-
-  pub moved-top : (p : ℕ) → new_top image ≤ p → moved_word image p ≡ word_at image p
-  moved-top p l = cond-false (ltb p (new_top image)) (written image (λ a. not (is_deferred image a)) (origin image p) p) (word_at image p) (le-ltb p (new_top image) l)
 
   -- ---- fillers and zeros as parts of the heap
 

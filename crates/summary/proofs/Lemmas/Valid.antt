@@ -1,5 +1,5 @@
 -- The compacted image has a live list again.
-use Rattle.std.proofs.Common.{◌≡◌, ℕ, zero, suc, ◌+◌, ◌-◌, ◌^◌, ◌%◌, ◌/◌, ◌≤◌, ◌<◌, inl, inr, true, false, ◌&&◌, ◌||◌, List, [], ◌∷◌, length, get_or, refl, sym, ◌∙◌, ap, subst, arith, ltb, leb, eqb, add-zero}
+use Rattle.std.proofs.Common.{◌≡◌, ℕ, zero, suc, ◌+◌, ◌-◌, ◌^◌, ◌%◌, ◌/◌, ◌≤◌, ◌<◌, inl, inr, true, false, ◌&&◌, List, [], ◌∷◌, length, get_or, refl, sym, ◌∙◌, ap, subst, arith, ltb, leb, eqb, add-zero}
 use Rattle.object_heap.specs.Header.{references_of, filler_header}
 use Rattle.std.proofs.lemmas.Bool.{false≢true, cases_lt, cases_Bool, and_left, and_right, and_from, lt-leb, le-leb, le-ltb, lt-ltb, cond-true, cond-false, or_right, or_cases, eqb-true, eq-eqb, and_parts, ltb-true, leb-true, cond_both}
 use Rattle.std.proofs.lemmas.List.{get_or-map, length-map, get_or_default, get_or_past}

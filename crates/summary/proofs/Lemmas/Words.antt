@@ -176,6 +176,16 @@ module _ (image : HeapImage) (sound : HasLiveList image) where
       let to : slid image q ≡ p = r.3 in
       (q, ap (origin image) (sym to) ∙ origin-slid image sound q (live_below q live) live)
 
+  -- an address below the new top to which no word goes lies in the dense prefix
+  pub nowhere-in_prefix : (p : ℕ) → p < new_top image → origin image p ≡ None → p < prefix_end image
+  nowhere-in_prefix p below e = elim (cases_lt p (prefix_end image)) [
+    | inl low ↦ low
+    | inr high ↦ let o = origin-above p high below in absurd (none o.0 (sym e ∙ o.1))
+  ]
+    where
+      none : (q : ℕ) → None ≡ Some q → ⊥
+      none q h = cc
+
   pub origin-live : (p : ℕ) → p < P → is_live_word image p ≡ true → origin image p ≡ Some p
   origin-live p l live = ap (origin image) (sym (slid-low image p l)) ∙ origin-slid image sound p (live_below p live) live
 

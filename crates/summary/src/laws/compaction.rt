@@ -1,14 +1,13 @@
 //! The compacted heap as a whole.
 
-ghost use Rattle.std.specs.Prelude.{◌≡◌, ◌+◌, ◌-◌, ◌<◌, ◌≤◌, ◌&&◌, true, ℕ, List, All, Option, slice_range, replicate, map, flat_map, cond, Bool};
+ghost use Rattle.std.specs.Prelude.{◌≡◌, ◌+◌, ◌-◌, ◌<◌, ◌≤◌, ◌&&◌, ℕ, List, All, slice_range, replicate, map, flat_map, cond, Bool};
 ghost use Rattle.std.specs.List.{range_with_len};
-ghost use Rattle.object_heap.specs.HeapImage.{HeapImage, IsValid, HasLiveList, heap_words, region_count, start_of, word_at, block_of, references_at, end_of, reference_at, is_live_word, reachable};
+ghost use Rattle.object_heap.specs.HeapImage.{HeapImage, IsValid, HasLiveList, heap_words, region_count, start_of, word_at, block_of, references_at, end_of, reference_at, reachable};
 ghost use Rattle.summary.specs.LiveObjects.{object_count, object_at};
-ghost use Rattle.summary.specs.NewAddresses.{new_address, new_end_of, new_top, prefix_end};
-ghost use Rattle.summary.specs.WordMoves.{slid};
+ghost use Rattle.summary.specs.NewAddresses.{new_address, new_end_of, new_top};
 ghost use Rattle.summary.specs.Compaction.{redirected, is_reference_of, object_image, carried, moved_word, compacted_word, moved, compact};
 ghost use Rattle.summary.specs.SameGraph.{IsSameGraph};
-ghost use Rattle.summary.specs.RegionData.{region_addresses, fill_count};
+ghost use Rattle.summary.specs.RegionData.{region_addresses};
 
 use heap_image::live_laws;
 
@@ -28,20 +27,6 @@ pub fn compaction_keeps_the_reachable()
     live_laws();
 }
 
-/// The new words, the new live list and the figures of a collection don't depend on the roots.
-pub fn roots_change_nothing_else()
-    ensures words { (image : HeapImage) (roots : Option (List ℕ))
-        → (compact (record image { roots = roots })).words ≡ (compact image).words }
-    ensures live { (image : HeapImage) (roots : Option (List ℕ))
-        → (compact (record image { roots = roots })).live ≡ (compact image).live }
-    ensures prefix { (image : HeapImage) (roots : Option (List ℕ))
-        → prefix_end (record image { roots = roots }) ≡ prefix_end image }
-    ensures top { (image : HeapImage) (roots : Option (List ℕ))
-        → new_top (record image { roots = roots }) ≡ new_top image }
-    ensures filled { (image : HeapImage) (roots : Option (List ℕ))
-        → fill_count (record image { roots = roots }) ≡ fill_count image }
-{}
-
 /// The compacted heap has the same live objects in the same order, and the same references between them.
 pub fn compaction_keeps_the_graph()
     ensures { (image : HeapImage) → HasLiveList image → IsSameGraph image (compact image) }
@@ -58,14 +43,6 @@ pub fn references_lead_to_the_same_objects()
     ensures null { (image : HeapImage) → HasLiveList image → (i f : ℕ) → i < object_count image
         → f < references_at image (object_at image i) → reference_at image (object_at image i) f ≡ 0
         → reference_at (compact image) (new_address image (object_at image i)) f ≡ 0 }
-{}
-
-/// In the compacted heap the new address of a live word holds that word, redirected if it is a reference.
-pub fn compaction_by_words()
-    ensures { (image : HeapImage) → HasLiveList image → (q : ℕ) → q < heap_words image
-        → is_live_word image q ≡ true → slid image q < heap_words image
-        → slid image q < new_top image
-        → word_at (compact image) (slid image q) ≡ carried image (λ _. true) q }
 {}
 
 /// The compacted heap has each object's image at its new address, and zeros from the new top up.

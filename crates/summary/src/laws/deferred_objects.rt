@@ -1,12 +1,12 @@
 //! Deferred objects, and the heap between the moves and their update.
 
-ghost use Rattle.std.specs.Prelude.{◌≡◌, ◌+◌, ◌<◌, ◌≤◌, true, false, Some, None, not, ℕ, slice_range, map, cond};
+ghost use Rattle.std.specs.Prelude.{◌≡◌, ◌+◌, ◌<◌, ◌≤◌, true, false, Some, None, not, ℕ, map, cond};
 ghost use Rattle.std.specs.List.{range_with_len};
 ghost use Rattle.object_heap.specs.Header.{references_of};
-ghost use Rattle.object_heap.specs.HeapImage.{HeapImage, HasLiveList, heap_words, region_of, word_at, size_at, references_at, end_of};
+ghost use Rattle.object_heap.specs.HeapImage.{HeapImage, HasLiveList, heap_words, region_of, word_at, size_at, references_at};
 ghost use Rattle.summary.specs.LiveObjects.{object_count, object_at};
-ghost use Rattle.summary.specs.NewAddresses.{new_address, new_end_of, new_top};
-ghost use Rattle.summary.specs.Compaction.{redirected, object_image, is_deferred, carried, moved_word, compacted_word, moved, compact};
+ghost use Rattle.summary.specs.NewAddresses.{new_address, new_top};
+ghost use Rattle.summary.specs.Compaction.{redirected, is_deferred, carried, moved_word, compacted_word, moved, compact};
 ghost use Rattle.summary.specs.RegionData.{region_addresses, deferred};
 ghost use Rattle.summary.specs.Updates.{is_late_reference, updated_word};
 
@@ -45,21 +45,6 @@ pub fn moved_objects()
         → moved_word image (new_address image (object_at image i) + (1 + f))
         ≡ cond (is_deferred image (object_at image i)) (word_at image (object_at image i +
         (1 + f))) (redirected image (word_at image (object_at image i + (1 + f)))) }
-{}
-
-/// At its new address the moved heap has the image of an object that is not deferred, and the old words of a deferred
-/// one. From the new top up it has the old words.
-pub fn moves_by_objects()
-    ensures now { (image : HeapImage) → HasLiveList image → (i : ℕ) → i < object_count image
-        → is_deferred image (object_at image i) ≡ false
-        → slice_range (moved image).words (new_address image (object_at image i)) (new_end_of image (object_at image i))
-        ≡ object_image image (object_at image i) }
-    ensures later { (image : HeapImage) → HasLiveList image → (i : ℕ) → i < object_count image
-        → is_deferred image (object_at image i) ≡ true
-        → slice_range (moved image).words (new_address image (object_at image i)) (new_end_of image (object_at image i))
-        ≡ slice_range image.words (object_at image i) (end_of image (object_at image i)) }
-    ensures old { (image : HeapImage) → HasLiveList image → (p : ℕ) → new_top image ≤ p
-        → moved_word image p ≡ word_at image p }
 {}
 
 /// Redirecting the references of the deferred objects and clearing the words from the new top up makes the compacted

@@ -1,6 +1,6 @@
 //! Live words: the objects to which they belong, and their counts.
 
-ghost use Rattle.std.specs.Prelude.{◌≡◌, ◌+◌, ◌-◌, ◌*◌, ◌/◌, ◌<◌, ◌≤◌, true, false, ℕ, map, sum};
+ghost use Rattle.std.specs.Prelude.{◌≡◌, ◌+◌, ◌-◌, ◌*◌, ◌/◌, ◌<◌, ◌≤◌, true, ℕ, map, sum};
 ghost use Rattle.std.specs.List.{range_with_len};
 ghost use Rattle.object_heap.specs.HeapImage.{HeapImage, HasLiveList, heap_words, end_of, is_live_word, live_words};
 ghost use Rattle.summary.specs.LiveObjects.{object_count, object_at};
@@ -20,21 +20,6 @@ pub fn words_of_objects()
         → object_at image i ≡ object_at image k }
     ensures ordered { (image : HeapImage) → HasLiveList image → (i k : ℕ) → i < k → k < object_count image
         → end_of image (object_at image i) ≤ object_at image k }
-{}
-
-/// All words of an object are live, and no word before the first object, after the last or between two.
-pub fn live_words_by_objects()
-    ensures within { (image : HeapImage) → HasLiveList image → (i a b : ℕ) → i < object_count image
-        → object_at image i ≤ a → a ≤ b → b ≤ end_of image (object_at image i)
-        → live_words image a b ≡ b - a }
-    ensures between { (image : HeapImage) → HasLiveList image → (i a b : ℕ) → i < object_count image
-        → end_of image (object_at image i) ≤ a
-        → (i + 1 < object_count image → b ≤ object_at image (i + 1)) → live_words image a b ≡ 0 }
-    ensures before { (image : HeapImage) → HasLiveList image → (a b : ℕ)
-        → (0 < object_count image → b ≤ object_at image 0) → live_words image a b ≡ 0 }
-    ensures dead { (image : HeapImage) → HasLiveList image → (i q : ℕ) → i < object_count image
-        → end_of image (object_at image i) ≤ q
-        → (i + 1 < object_count image → q < object_at image (i + 1)) → is_live_word image q ≡ false }
 {}
 
 /// The count of live words is the sum over parts, and over blocks of n words.

@@ -47,14 +47,6 @@ pub fn region_data_by_objects()
         → partial_words image r ≡ 0 }
 {}
 
-/// The destination of a region after the dense prefix is the prefix end plus the number of live words in between.
-pub fn destination_by_counting()
-    ensures { (image : HeapImage) → HasLiveList image → (r : ℕ) → prefix_end image ≤ start_of image r
-        → start_of image r ≤ heap_words image
-        → destination image r
-        ≡ prefix_end image + live_words image (prefix_end image) (start_of image r) }
-{}
-
 /// Up to the prefix end a region's destination is its start. From there on it is the destination of the region before
 /// plus that region's data; the last sum is the new top.
 pub fn destinations_in_a_row()

@@ -1,4 +1,4 @@
-use Rattle.summary.proofs.Lemmas.Words.{live_words-add, live_words-le, live_below, owner, is_live, ends_before, slid-low, slid-high, slid-le, slid-above, slid-below, slid-onto, origin-live, origin-dead}
+use Rattle.summary.proofs.Lemmas.Words.{live_words-add, live_words-le, live_below, owner, is_live, ends_before, slid-low, slid-high, slid-le, slid-above, slid-below, slid-onto, nowhere-in_prefix, origin-live, origin-dead}
 use Rattle.summary.proofs.Lemmas.Addresses.{new_address-slid, prefix_end-le, new_top-live_words}
 use Rattle.summary.proofs.Lemmas.Graph.{new-down, new-below}
 use Rattle.summary.proofs.Lemmas.Regions.{prefix_region, data-le, region-into}
@@ -7,7 +7,7 @@ use Rattle.summary.proofs.Lemmas.Steps.{top-le, to_fill-count}
 use Rattle.summary.proofs.Lemmas.Origin.{slid-increasing, origin-slid, origin-Some}
 use Rattle.summary.proofs.Lemmas.Runs.{slid-run, slid-skip, origin-in_region}
 use Rattle.summary.proofs.Lemmas.Readers.{origin-up, origin-below, origin-reads, reads-word, word_reads, reads-below, reads-filled, reads-prefix, reads-destination, reads-in_range, reader_count-le, source-Some}
-use Rattle.summary.proofs.Lemmas.PlainWords.{nowhere-in_prefix, parts-of_blocks}
+use Rattle.summary.proofs.Lemmas.Blocks.{parts-of_blocks}
 use Rattle.summary.proofs.Lemmas.Telling.{destination-le}
 use Rattle.summary.proofs.Lemmas.Destinations.{destination-live_words}
 use Rattle.summary.proofs.Lemmas.Updates.{reference-owner, moved-reference, moved-same, moved-late}

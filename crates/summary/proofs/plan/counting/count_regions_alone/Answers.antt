@@ -1,9 +1,9 @@
-use Rattle.std.proofs.Common.{◌≡◌, [], ◌∷◌, ◌++◌, ◌∙◌, ap, arith}
+use Rattle.std.proofs.Common.{◌≡◌, [], ◌∷◌, ◌++◌, ◌∙◌, ap, sym, arith, zero-add}
+use Rattle.std.proofs.lemmas.List.FromFn.{map-range_with_len_more}
 use Rattle.std.specs.Prelude.{map}
 use Rattle.std.specs.List.{range_with_len}
 use Rattle.object_heap.specs.HeapImage.{region_count}
 use Rattle.summary.specs.Layout.{region_counts}
-use Rattle.summary.proofs.Lemmas.PlainWords.{map-range-more}
 use Rattle.summary.proofs.plan.counting.count_regions_alone.Goals as goal
 
 pub loop-r-preserved : goal.loop-r-preserved
@@ -12,7 +12,7 @@ loop-r-preserved c =
     c.in_ok-push.ensures.items
     ∙ ap (λ counts. counts ++ c.counts_of.result ∷ []) c.loop-r.invariant
     ∙ ap (λ count. map (region_counts image) (range_with_len 0 c.loop-r.r) ++ count ∷ []) c.counts_of.ensures
-    ∙ map-range-more (region_counts image) c.loop-r.r
+    ∙ sym (map-range_with_len_more (region_counts image) 0 c.loop-r.r c.loop-r.r (zero-add c.loop-r.r))
 
 pub returns : goal.returns
 returns c =

@@ -5,8 +5,7 @@ use Rattle.summary.specs.NewAddresses.{greatest, dead_words_below, is_allowed}
 use Rattle.summary.specs.RegionData.{data_words}
 use Rattle.summary.specs.declared.plan.region_counts.RegionCounts.{RegionCounts}
 use Rattle.summary.proofs.Lemmas.Layouts.{counts_length, counts_at, data-le, dead-next}
-use Rattle.summary.proofs.Lemmas.Prefix.{greatest-le}
-use Rattle.summary.proofs.Lemmas.PlainWords.{prefix-allowed, prefix-refused}
+use Rattle.summary.proofs.Lemmas.Prefix.{greatest-le, prefix-allowed, prefix-refused}
 use Rattle.summary.proofs.plan.layout.prefix_end.Goals as goal
 use Rattle.summary.proofs.plan.layout.prefix_end.Goals.{then-dead-allowance, else-dead-allowance}
 

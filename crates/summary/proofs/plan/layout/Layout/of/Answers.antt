@@ -1,6 +1,7 @@
-use Rattle.std.proofs.Common.{ℕ, ◌≡◌, ◌≤◌, ◌<◌, ◌*◌, ◌+◌, ◌%◌, [], ◌∷◌, ◌++◌, inl, inr, ◌∙◌, ap, refl, arith}
+use Rattle.std.proofs.Common.{ℕ, ◌≡◌, ◌≤◌, ◌<◌, ◌*◌, ◌+◌, ◌%◌, [], ◌∷◌, ◌++◌, inl, inr, ◌∙◌, ap, sym, refl, arith, zero-add}
 use Rattle.std.proofs.lemmas.Bool.{cases_lt}
 use Rattle.std.proofs.lemmas.Nat.{div-add-mod'}
+use Rattle.std.proofs.lemmas.List.FromFn.{map-range_with_len_more}
 use Rattle.std.specs.Prelude.{map}
 use Rattle.std.specs.List.{range_with_len}
 use Rattle.object_heap.specs.HeapImage.{start_of, region_words, region_count, heap_words}
@@ -11,7 +12,6 @@ use Rattle.summary.specs.declared.plan.region_counts.RegionCounts.{RegionCounts}
 use Rattle.summary.specs.declared.region_data.RegionData.{RegionData}
 use Rattle.summary.proofs.Lemmas.Addresses.{prefix_end-le}
 use Rattle.summary.proofs.Lemmas.Layouts.{counts_length, counts_at, destination-low, destination-high, destination-step, destination-first, destination-none, destination-fits}
-use Rattle.summary.proofs.Lemmas.PlainWords.{map-range-more}
 use Rattle.summary.proofs.Lemmas.Steps.{destination-top}
 use Rattle.summary.proofs.plan.layout.Layout.of.Goals as goal
 use Rattle.summary.proofs.plan.layout.Layout.of.Goals.{then-region-prefix, else-region-prefix}
@@ -70,7 +70,7 @@ loop-r-preserved c =
     c.in_ok-push.ensures.items
     ∙ ap (λ rs. rs ++ c.placed-region.result ∷ []) c.loop-r.invariant.0
     ∙ ap (λ (k : RegionData). map (placed_region image) (range_with_len 0 r) ++ k ∷ []) c.placed-region.ensures
-    ∙ map-range-more (placed_region image) r in
+    ∙ sym (map-range_with_len_more (placed_region image) 0 r r (zero-add r)) in
     elim c.if-region-prefix.branch [
       | then-region-prefix w ↦
           let behind = w.if-region-prefix.true in

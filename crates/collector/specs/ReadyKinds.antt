@@ -1,9 +1,0 @@
--- The two kinds of queues of ready regions.
-use Rattle.collector.specs.Ready.{Queue}
-use Rattle.collector.specs.declared.workers.ready.AnyQueue.{AnyQueue}
-use Rattle.collector.specs.declared.workers.ready.AnyQueue.TheVariants.{Own, Shared}
-
--- what a queue of either kind is seen as
-abbrev pub view_of : AnyQueue → Queue
-view_of (Own queue) = queue
-view_of (Shared queue) = queue

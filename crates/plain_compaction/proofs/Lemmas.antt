@@ -1,0 +1,5 @@
+pub mod Counts
+pub mod Words
+pub mod Nexts
+pub mod Origins
+pub mod Prefix

@@ -1,0 +1,10 @@
+//! The compaction of an image as a plain slow program, for tests to compare with. No program of this repository calls it.
+//!
+//! [`compact_plainly`] computes each word of the compacted image by its definition, and keeps no tables. Its result is
+//! proved to be the compaction of the definitions, word for word. Its time grows with the number of heap words times the
+//! number of live objects.
+#![tactic(auto)]
+
+mod plainly;
+
+pub use plainly::compact_plainly;

@@ -1,5 +1,0 @@
-use Rattle.summary.proofs.laws.compaction.compaction_by_words.Goals as goal
-use Rattle.summary.proofs.Lemmas.Origin.{compact-slid}
-
-pub returns : goal.returns
-returns c = compact-slid
