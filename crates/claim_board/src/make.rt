@@ -78,8 +78,8 @@ impl Board {
         ensures passes { IfOk result (λ made. (vec_len made.1 ≡ workers) × ArePasses (identity made.0) made.1.items) }
     {
         let moves = GivenMoves::copy_of(alloc, moves)?;
-        let words = opening_words(alloc, &moves)?;
         let sources = count_sources(alloc, &moves)?;
+        let words = opening_words(alloc, &moves)?;
         let key = Key { moves, workers };
         let (table, place) = Table::of_words(alloc, words.as_slice(), &key)?;
         let passes = deal(alloc, &table.shared, place, workers)?;

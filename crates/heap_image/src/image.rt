@@ -227,6 +227,14 @@ impl Image {
         self.begins.as_ref()
     }
 
+    /// Takes out the bits of [`begins`](Image::begins), if reading the image has kept them. The image itself doesn't change.
+    pub fn take_begins(&mut self) -> Option<Bits>
+        ensures bits { IfSome result (λ bits. MarkBegins self.old.live (heap_words self.old) bits) }
+        ensures same { self.new ≡ self.old }
+    {
+        self.begins.take()
+    }
+
     /// The sizes in words of the live objects in their order, in pieces of [`PIECE`], if reading the image has kept
     /// them. The last piece may end with zeros.
     pub fn sizes(&self) -> Option<&[[u32; PIECE]]>

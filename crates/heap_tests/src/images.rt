@@ -18,6 +18,7 @@ use heap_image::{
     Fault, FromRead, Image, ToWrite, decode_by_threads, encode, read_image, write_image,
 };
 use heap_samples::{BASE_LIVE, BASE_WORDS, Base};
+use mark_bitmap::Marks;
 use std::alloc::Global;
 use std::process::Abort;
 use std::test::Fail;
@@ -95,6 +96,18 @@ fn sizes_are_kept_if_threads_check(rt: HostRuntime) -> Result<(), Fail> {
     image.forget_seen();
     holds(&rt, image.begins().is_none() && image.sizes().is_none());
     equal_bytes(&rt, encode(rt.alloc(), &image)?.as_slice(), text.as_slice());
+    Ok(())
+}
+
+#[test]
+fn marks_take_over_the_kept_bits(rt: HostRuntime) -> Result<(), Fail> {
+    let text = base_text(rt.alloc())?;
+    let mut image = decode_by_threads(rt.alloc(), text.as_slice(), &rt)?;
+    let marks = Marks::taking_over(rt.alloc(), &mut image, 2, &rt)?;
+    let begins = [marks.next_begin(13), marks.next_begin(21)];
+    equal(&rt, begins, [Some(20), None]);
+    holds(&rt, image.begins().is_none());
+    equal(&rt, last_size(&image), 10);
     Ok(())
 }
 

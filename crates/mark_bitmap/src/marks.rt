@@ -8,7 +8,7 @@ ghost use Rattle.mark_bitmap.specs.Marks.{AreBegins, AreBitsFrom, AreLiveBits, b
 
 use crate::laws::marked_image_is_valid;
 use crate::mark_builder::MarkBuilder;
-use crate::objects::{begin_bits, mark_part, no_bits};
+use crate::objects::{begin_bits, mark_part, no_bits, taken_begin_bits};
 use heap_image::{Bits, Image};
 use std::alloc::{AllocError, Global};
 use std::marker::Model;
@@ -74,22 +74,37 @@ impl Marks {
     ) -> Result<Marks, AllocError>
         ensures { IfOk result (λ marks. marks ≡ image.now) }
     {
-        let words = (image.len() / 64 + 1) as usize;
-        let share = words.div_ceil(workers.max(1)).max(LEAST_BIT_WORDS);
-        Marks::in_shares(alloc, image, share, threads)
+        let begins = begin_bits(alloc, image)?;
+        Marks::in_shares(alloc, image, begins, share_of(image, workers), threads)
     }
 
-    /// Like [`of`](Marks::of), but with a thread for each `share` words of bits.
+    /// Like [`by_workers`](Marks::by_workers), but takes over the bits that reading the image has kept, if it has. The
+    /// image itself doesn't change.
+    pub fn taking_over(
+        alloc: Global,
+        image: &mut Image,
+        workers: usize,
+        threads: &(impl Threads + Sync),
+    ) -> Result<Marks, AllocError>
+        ensures marks { IfOk result (λ marks. marks ≡ image.old) }
+        ensures same { image.new ≡ image.old }
+    {
+        let begins = taken_begin_bits(alloc, image)?;
+        Marks::in_shares(alloc, image, begins, share_of(image, workers), threads)
+    }
+
+    /// Builds the marks of an image with these begin bits, with a thread for each `share` words of bits.
     fn in_shares(
         alloc: Global,
         image: &Image,
+        begins: Bits,
         share: usize,
         threads: &(impl Threads + Sync),
     ) -> Result<Marks, AllocError>
-        requires { 0 < share }
+        requires begins { AreBegins image.now begins }
+        requires some { 0 < share }
         ensures { IfOk result (λ marks. marks ≡ image.now) }
     {
-        let begins = begin_bits(alloc, image)?;
         let mut live = no_bits(alloc, image)?;
         let builder = MarkBuilder {
             image,
@@ -257,4 +272,12 @@ impl Marks {
         let region = start >> self.region_log << self.region_log;
         self.live_words(region, start) as u32
     }
+}
+
+/// The number of words of bits for each of at most `workers` threads; 0 counts as 1.
+fn share_of(image: &Image, workers: usize) -> usize
+    ensures { 0 < result }
+{
+    let words = (image.len() / 64 + 1) as usize;
+    words.div_ceil(workers.max(1)).max(LEAST_BIT_WORDS)
 }

@@ -20,6 +20,17 @@ pub(crate) fn begin_bits(alloc: Global, image: &Image) -> Result<Bits, AllocErro
     }
 }
 
+/// The begin bits of the live objects. If reading the image has kept them, they are taken out of it.
+pub(crate) fn taken_begin_bits(alloc: Global, image: &mut Image) -> Result<Bits, AllocError>
+    ensures bits { IfOk result (λ bits. AreBegins image.old bits) }
+    ensures same { image.new ≡ image.old }
+{
+    match image.take_begins() {
+        Some(begins) => Ok(begins),
+        None => begin_bits(alloc, image),
+    }
+}
+
 /// Words with a bit for each address, none of which is set.
 pub(crate) fn no_bits(alloc: Global, image: &Image) -> Result<Vec<u64>, AllocError>
     ensures room { IfOk result (λ words. length words.items ≡ bit_words image.now) }

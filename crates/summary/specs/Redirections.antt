@@ -19,9 +19,9 @@ module _ (image : HeapImage) where
   abbrev pub counted_below : ℕ → ℕ
   counted_below x = count_by is_counted (range_with_len 0 x)
 
-  -- 1 plus the dead words of the dense prefix
+  -- the dead words of the dense prefix
   abbrev pub first_rank : ℕ
-  first_rank = prefix_end image - live_words image 0 (prefix_end image) + 1
+  first_rank = prefix_end image - live_words image 0 (prefix_end image)
 
   -- what the redirections of this image keep: its live bits, and for each word of them the live words before it, counted
   -- on from the first rank

@@ -2,9 +2,9 @@
 //! holds and reads.
 //!
 //! [`Plan::of`] makes the plan of an image from its marks. Several threads count the regions. A plan takes memory for
-//! each region and 10 bytes for each 64 words of the heap. Its queries allocate nothing and are look-ups, except
-//! [`Plan::reads`], which steps from region to region. One count of bits redirects a reference, whether it is null,
-//! leads into the dense prefix or leads to an object that slides.
+//! each region and 2 bytes for each 64 words of the heap, and keeps the live bits of the marks, too. Its queries allocate
+//! nothing and are look-ups, except [`Plan::reads`], which steps from region to region. One count of bits redirects a
+//! reference, whether it is null, leads into the dense prefix or leads to an object that slides.
 //!
 //! The definitions are in `specs/`. [`laws`] has theorems about them, by subject: for example, live objects keep their
 //! order and don't overlap, only live words lie between the prefix end and the new top, each reference still leads to

@@ -62,9 +62,9 @@ impl<T: Threads + Sync> Hands for Many<'_, T> {
 
     ghost may_start = { IsSync T.row };
 
-    /// What the reader kept is freed once the marks are made, which leaves its memory to the plan.
+    /// The marks take over bits that the reader kept. What else it kept is freed then, which leaves its memory to the plan.
     fn survey(&self, alloc: Global, image: &mut Image) -> Result<Survey, Fault> {
-        let marks = Marks::by_workers(alloc, image, self.most, self.threads)?;
+        let marks = Marks::taking_over(alloc, image, self.most, self.threads)?;
         image.forget_seen();
         Survey::with_marks(alloc, image, marks, self.most, self.threads)
     }

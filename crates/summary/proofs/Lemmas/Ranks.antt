@@ -1,5 +1,5 @@
 -- Redirection by one count, and how bits are counted.
-use Rattle.std.proofs.Common.{◌≡◌, ℕ, zero, suc, ◌+◌, ◌-◌, ◌*◌, ◌/◌, ◌%◌, ◌^◌, ◌≤◌, ◌<◌, min, max, inl, inr, Bool, true, cond, eqb, List, [], length, get_or, refl, sym, ◌∙◌, ap, subst, arith, ltb, add-zero, zero-add, bit_and}
+use Rattle.std.proofs.Common.{◌≡◌, ℕ, zero, suc, ◌+◌, ◌-◌, ◌*◌, ◌/◌, ◌%◌, ◌^◌, ◌≤◌, ◌<◌, min, inl, inr, Bool, true, cond, eqb, List, [], length, get_or, refl, sym, ◌∙◌, ap, subst, arith, ltb, add-zero, zero-add, bit_and}
 use Rattle.std.specs.Prelude.{count_by}
 use Rattle.std.specs.List.{range_with_len, Contains, list_any}
 use Rattle.std.specs.Int.{bit_at}
@@ -157,20 +157,34 @@ module _ (image : HeapImage) where
           rw some (rw at (rw above refl))
 
 module _ (image : HeapImage) where
-  -- the lesser of a reference and the live words below its address, counted on from the first rank
-  pub least-counted : (x a count : ℕ) → a ≡ max x 1 - 1 → count ≡ first_rank image + live_words image 0 a → min x count ≡ counted_below image x
-  least-counted x a count at is = elim (cases_lt 0 x) [
+  -- one live word more
+  live-more : (a : ℕ) → is_live_word image a ≡ true → live_words image 0 (a + 1) ≡ live_words image 0 a + 1
+  live-more a is =
+      let cut = live_words-add image 0 a (a + 1) (omega arith) (omega arith) in
+      let few : a + 1 - a ≡ 1 = omega arith in
+      let last : live_words image a (a + 1) ≡ cond (is_live_word image a) 1 0 + 0
+      = ap (λ n. count_by (is_live_word image) (range_with_len a n)) few ∙ count_by-cons (is_live_word image) a [] in
+      let one : cond {A = ℕ} (is_live_word image a) 1 0 ≡ 1 = ap (λ c. cond {A = ℕ} c 1 0) is in
+      omega arith
+
+  -- the lesser of a reference and the live words below it, counted on from the first rank
+  pub least-counted : (x count : ℕ) → (0 < x → is_live_word image (x - 1) ≡ true) → count ≡ first_rank image + live_words image 0 x → min x count ≡ counted_below image x
+  least-counted x count live is = elim (cases_lt 0 x) [
     | inr none ↦ (
         let null : counted_below image x ≡ 0 = ap (counted_below image) (let e : x ≡ 0 = omega arith in e) in
         omega arith)
     | inl some ↦
+        let a : ℕ = x - 1 in
         let e : x ≡ suc a = omega arith in
+        let next : a + 1 ≡ x = omega arith in
+        let more : live_words image 0 x ≡ live_words image 0 a + 1 = ap (live_words image 0) (sym next) ∙ live-more a (live some) in
         let to : counted_below image x ≡ suc (slid image a) = ap (counted_below image) e ∙ counted-slid image a in
         let dead = live_words-le image 0 (prefix_end image) in
         elim (cases_lt a (prefix_end image)) [
           | inl low ↦
               let cut = live_words-add image 0 a (prefix_end image) (omega arith) (omega arith) in
-              let few = live_words-le image a (prefix_end image) in
+              let one = live_words-add image 0 x (prefix_end image) (omega arith) (omega arith) in
+              let few = live_words-le image x (prefix_end image) in
               let stays = slid-low image a low in
               omega arith
           | inr high ↦
@@ -193,6 +207,14 @@ module _ (image : HeapImage) (sound : HasLiveList image) where
       let at : object_at image listed.0 ≡ a = listed.2 in
       let below = live_below image sound (object_at image listed.0) (is_live image sound listed.0 (object_at image listed.0) listed.1 (omega arith) (omega arith)) in
       omega arith
+
+  -- the first word of a live object is live
+  pub listed-live : (a : ℕ) → Contains image.live a → is_live_word image a ≡ true
+  listed-live a h =
+      let listed = index_of image.live a h in
+      let some = (sound.sound listed.0 0 listed.1).header in
+      let at : object_at image listed.0 ≡ a = listed.2 in
+      subst (λ (y : ℕ). is_live_word image y ≡ true) at (is_live image sound listed.0 (object_at image listed.0) listed.1 (omega arith) (omega arith))
 
   -- a live object goes where its first word goes
   object-slid : (a : ℕ) → Contains image.live a → new_address image a ≡ slid image a
@@ -230,6 +252,10 @@ module _ (image : HeapImage) (sound : HasLiveList image) where
     | inl some ↦ let inside = live_in_heap (w - 1) (leads w h (λ none. omega arith)) in omega arith
     | inr none ↦ omega arith
   ]
+
+-- the word of a reference that is not null is live
+pub reference-live : (image : HeapImage) → HasLiveList image → (w : ℕ) → is_null_or_live image w ≡ true → 0 < w → is_live_word image (w - 1) ≡ true
+reference-live image sound w h some = listed-live image sound (w - 1) (leads image sound w h (λ none. omega arith))
 
 pub redirected-counted : (image : HeapImage) → HasLiveList image → (w : ℕ) → is_null_or_live image w ≡ true → redirected image w ≡ counted_below image w
 redirected-counted image sound w h = elim (cases_lt 0 w) [

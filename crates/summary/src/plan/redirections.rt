@@ -1,7 +1,7 @@
 //! `Redirections`: the new value of each reference, by one count of live words.
 
-ghost use Rattle.std.specs.Prelude.{◌≡◌, ◌≤◌, map, All, IfOk, IsTrue, Contains};
-ghost use Rattle.object_heap.specs.HeapImage.{heap_words, is_null_or_live};
+ghost use Rattle.std.specs.Prelude.{◌≡◌, ◌-◌, ◌<◌, ◌≤◌, map, All, IfOk, IsTrue, Contains};
+ghost use Rattle.object_heap.specs.HeapImage.{heap_words, is_live_word, is_null_or_live};
 ghost use Rattle.summary.specs.NewAddresses.{prefix_end, new_address};
 ghost use Rattle.summary.specs.Compaction.{redirected};
 ghost use Rattle.summary.specs.Redirections.{counted_below};
@@ -16,17 +16,17 @@ use std::sync::Arc;
 
 /// The new value of each reference of an image.
 ///
-/// A reference is 1 plus an address, or 0 for null. One that slides becomes the number of live words below its address,
-/// plus the dead words of the dense prefix, plus 1. That number is never above the reference. Null and a reference into the
-/// dense prefix stay, and for them it is never below. So the new value is the lesser of the two, and no case is told apart.
+/// A reference is 1 plus the address of a live object, or 0 for null. One that slides becomes the dead words of the dense
+/// prefix plus the live words below the reference itself, of which the object's first is the last. That number is never above
+/// the reference. Null and a reference into the dense prefix stay, and for them it is never below. So the new value is the
+/// lesser of the two, and no case is told apart.
 ///
 /// A contract sees the image that the redirections were made of, as it was then.
 pub(crate) struct Redirections {
     image: Snapshot<Image>,
     /// The live bits, which the marks keep, too.
     live: Arc<Bits, Global>,
-    /// For each word of `live`, 1 plus the dead words of the dense prefix, plus the number of bits set in all words
-    /// before it.
+    /// For each word of `live`, the dead words of the dense prefix plus the number of bits set in all words before it.
     ranks: Ranks,
 }
 
@@ -65,7 +65,7 @@ impl Redirections {
         let words = (image.len() / 64 + 1) as usize;
         let dead = prefix - marks.live_words(0, prefix);
         let live = marks.share_live()?;
-        let ranks = Ranks::of(alloc, &live, words, dead + 1)?;
+        let ranks = Ranks::of(alloc, &live, words, dead)?;
         Ok(Redirections {
             image: Snapshot::of(image),
             live,
@@ -104,15 +104,15 @@ impl Redirections {
         }
     }
 
-    /// The new value of a reference, which may lead to any live word or, into the dense prefix, to any word at all.
+    /// The new value of a reference.
     #[inline]
     fn rank(&self, reference: u64) -> u64
-        requires { reference ≤ heap_words self.now }
+        requires inside { reference ≤ heap_words self.now }
+        requires live { 0 < reference → IsTrue (is_live_word self.now (reference - 1)) }
         ensures { result ≡ counted_below self.now reference }
     {
-        let a = reference.max(1) - 1;
-        let i = (a / 64) as usize;
-        let below = self.live.word(i) & ((1 << (a % 64)) - 1);
+        let i = (reference / 64) as usize;
+        let below = self.live.word(i) & ((1 << (reference % 64)) - 1);
         let count = self.ranks.get(i) + u64::from(below.count_ones());
         reference.min(count)
     }

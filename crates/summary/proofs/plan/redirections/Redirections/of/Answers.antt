@@ -25,13 +25,6 @@ overflow_sub-dead c =
     let live = c.live_words.ensures in
     omega arith
 
-pub overflow_add-dead : goal.overflow_add-dead
-overflow_add-dead c =
-    let inside = prefix_end-le c.args.image.now c.len.ensures.valid.live_list in
-    let prefix = c.requires.prefix in
-    let limits = c.len.ensures.valid.limits.few_words in
-    omega arith
-
 pub of-requires-clause-small : goal.of-requires-clause-small
 of-requires-clause-small c =
     let inside = prefix_end-le c.args.image.now c.len.ensures.valid.live_list in
@@ -55,7 +48,7 @@ pub invariant_of-result : goal.invariant_of-result
 invariant_of-result c =
     let m : HeapImage = c.args.image.now in
     let live : List ℕ = arc_value c.in_ok-live.live in
-    let first : ℕ = c.args.prefix - c.live_words.result + 1 in
+    let first : ℕ = c.args.prefix - c.live_words.result in
     let are : AreLiveBits m live = subst (λ (i : HeapImage). AreLiveBits i live) c.requires.marks c.in_ok-live.ensures in
     let words : c.len.result / 64 + 1 ≡ bit_words m = ap (λ n. n / 64 + 1) c.len.ensures.value in
     let before : c.live_words.result ≡ live_words m 0 (prefix_end m)
