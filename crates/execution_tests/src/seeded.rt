@@ -29,7 +29,7 @@ enum Shape {
 }
 
 /// The shape of the next heap.
-fn shape(seed: &mut Seed) -> Shape {
+fn next_shape(seed: &mut Seed) -> Shape {
     match seed.below(4) {
         0 => Shape::Packed,
         1 => Shape::Small,
@@ -73,7 +73,7 @@ fn seeded_objects(
     region_words: u64,
     len: u64,
 ) -> Result<Vec<Object>, AllocError> {
-    let shape = shape(seed);
+    let shape = next_shape(seed);
     let mut objects = Vec::new(alloc);
     let mut end: u64 = 0;
     for _ in 0..len {
