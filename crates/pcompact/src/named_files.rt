@@ -12,12 +12,8 @@ pub fn named_files<'a>(request: &Request<'a>) -> NamedFiles<'a> {
         Request::Map(call) => {
             NamedFiles::one(Role::Image, call.image).with(Role::Drawing, call.svg)
         }
-        Request::Collect(call) => {
-            NamedFiles::two((Role::Image, call.image), (Role::Out, call.out))
-        }
-        Request::Upgrade(call) => {
-            NamedFiles::two((Role::Image, call.image), (Role::Out, call.out))
-        }
+        Request::Collect(call) => image_and_out(call.image, call.out),
+        Request::Upgrade(call) => image_and_out(call.image, call.out),
         Request::Verify(call) => {
             NamedFiles::two((Role::Before, call.before), (Role::After, call.after))
         }
@@ -46,4 +42,9 @@ pub fn named_files<'a>(request: &Request<'a>) -> NamedFiles<'a> {
             )
         }
     }
+}
+
+/// The image that is read, and the one that is written.
+fn image_and_out<'a>(image: &'a str, out: &'a str) -> NamedFiles<'a> {
+    NamedFiles::two((Role::Image, image), (Role::Out, out))
 }
