@@ -1,9 +1,9 @@
 -- The word machine: the scheduler's steps with a heap, for words that slide down.
 use Rattle.std.specs.Prelude.{◌≡◌, ◌≢◌, ℕ, zero, suc, ◌+◌, ◌-◌, ◌*◌, ◌/◌, ◌%◌, ◌<◌, ◌≤◌, min, ◌==◌, nat_lt, if◌then◌else◌, IsTrue, Option, Some, None, List, [], ◌∷◌}
 use Rattle.scheduler.specs.MoveTable.{MoveTable, reads, to_fill}
-use Rattle.scheduler.specs.State.{State, opening, state_after, IsStep}
+use Rattle.scheduler.specs.State.{State, state_after, IsStep}
 use Rattle.scheduler.specs.declared.event.Event.{Event}
-use Rattle.scheduler.specs.declared.event.Event.TheVariants.{Claim, Look, Drain, Complete, Settle, Poll, Copy}
+use Rattle.scheduler.specs.declared.event.Event.TheVariants.{Drain, Complete, Copy}
 use Rattle.scheduler.specs.declared.entry.Entry.{Entry}
 
 -- Which word goes where, and how it is written. The address a lies in the region a / size.
@@ -47,19 +47,11 @@ pub record Machine : Type 0 where
   pub heap : ℕ → ℕ
   pub written : ℕ → ℕ
 
-abbrev pub machine_at_first : (ℕ → ℕ) → Machine
-machine_at_first start = record { known = opening; heap = start; written = λ r. 0 }
-
--- the lowest unwritten word of d
-abbrev pub next_place : Slide → ℕ → Machine → ℕ
-next_place p d w = d * p.size + w.written d
-
--- that word is written, from the present word at its origin
+-- the lowest unwritten word of d is written, from the present word at its origin
 abbrev pub write_one : Slide → ℕ → Machine → Machine
 write_one p d w =
-    record {
-      known = w.known;
-      heap = λ b. if b == next_place p d w then word_for p w.heap b else w.heap b;
+    record w {
+      heap = λ b. if b == d * p.size + w.written d then word_for p w.heap b else w.heap b;
       written = λ r. if r == d then w.written r + 1 else w.written r;
     }
 
@@ -77,31 +69,18 @@ IsCopiedOut p w d s = (a x : ℕ) → a < p.top → a / p.size ≡ d → p.origi
 
 -- what an event that the scheduler allows requires of the words
 abbrev pub AllowsWords : Slide → Machine → Event → Type 0
-AllowsWords p w (Claim r) = Unit {0}
-AllowsWords p w (Look r) = Unit {0}
 AllowsWords p w (Drain d s) = IsCopiedOut p w d s
 AllowsWords p w (Complete d) = w.written d ≡ words_of p d
-AllowsWords p w (Settle d) = Unit {0}
-AllowsWords p w Poll = Unit {0}
 AllowsWords p w (Copy d n) = w.written d + n ≤ words_of p d
+AllowsWords p w _ = Unit {0}
 
 -- the words after the event: only a copy writes any
 abbrev pub copied : Slide → Machine → Event → Machine
-copied p w (Claim r) = w
-copied p w (Look r) = w
-copied p w (Drain d s) = w
-copied p w (Complete d) = w
-copied p w (Settle d) = w
-copied p w Poll = w
 copied p w (Copy d n) = write_words p d n w
+copied p w _ = w
 
 abbrev pub machine_after : Slide → Machine → Entry → Machine
-machine_after p w e =
-    record {
-      known = state_after w.known e.worker e.event e.reply;
-      heap = (copied p w e.event).heap;
-      written = (copied p w e.event).written;
-    }
+machine_after p w e = record (copied p w e.event) { known = state_after w.known e.worker e.event e.reply }
 
 abbrev pub machine_from : Slide → Machine → List Entry → Machine
 machine_from p w [] = w
@@ -118,22 +97,3 @@ IsMachineStep m p workers w e =
 abbrev pub AreMachineSteps : MoveTable → Slide → ℕ → Machine → List Entry → Type 0
 AreMachineSteps m p workers w [] = Unit {0}
 AreMachineSteps m p workers w (e ∷ es) = IsMachineStep m p workers w e × AreMachineSteps m p workers (machine_after p w e) es
-
--- when each word is written, its origin holds the word of the start
-abbrev pub Finds : Slide → (ℕ → ℕ) → Machine → Event → Type 0
-Finds p start w (Copy d n) =
-    (k x : ℕ) → k < n → p.origin (d * p.size + w.written d + k) ≡ Some x → (write_words p d k w).heap x ≡ start x
-Finds p start w (Claim r) = Unit {0}
-Finds p start w (Look r) = Unit {0}
-Finds p start w (Drain d s) = Unit {0}
-Finds p start w (Complete d) = Unit {0}
-Finds p start w (Settle d) = Unit {0}
-Finds p start w Poll = Unit {0}
-
-abbrev pub AllFind : Slide → (ℕ → ℕ) → Machine → List Entry → Type 0
-AllFind p start w [] = Unit {0}
-AllFind p start w (e ∷ es) = Finds p start w e.event × AllFind p start (machine_after p w e) es
-
--- all regions that are to be filled are filled
-abbrev pub AllFilled : MoveTable → State → Type 0
-AllFilled m now = (r : ℕ) → IsTrue (to_fill m r) → IsTrue (now.filled r)

@@ -1,13 +1,17 @@
 -- The word machine over an image, and what holds for every list of calls that it allows.
-use Rattle.std.specs.Prelude.{◌≡◌, ℕ, Bool, not, ◌&&◌, if◌then◌else◌, List}
+use Rattle.std.specs.Prelude.{◌≡◌, ℕ, ◌+◌, ◌*◌, ◌<◌, Bool, not, ◌&&◌, if◌then◌else◌, IsTrue, Some, List}
 use Rattle.std.specs.List.{list_any}
 use Rattle.object_heap.specs.HeapImage.{HeapImage, region_words, word_at}
 use Rattle.summary.specs.NewAddresses.{new_top}
 use Rattle.summary.specs.WordMoves.{origin}
 use Rattle.summary.specs.Fillers.{filler_word}
 use Rattle.summary.specs.Compaction.{is_reference_of, is_deferred, redirected, moved_word}
-use Rattle.history.specs.Slide.{Slide, Machine, machine_at_first, machine_from, AreMachineSteps, AllFind, AllFilled}
+use Rattle.history.specs.Slide.{Slide, Machine, machine_from, write_words, AreMachineSteps}
 use Rattle.scheduler.specs.ImageMoves.{image_table}
+use Rattle.scheduler.specs.MoveTable.{to_fill}
+use Rattle.scheduler.specs.State.{opening}
+use Rattle.scheduler.specs.History.{IsSplit}
+use Rattle.scheduler.specs.declared.event.Event.TheVariants.{Copy}
 use Rattle.scheduler.specs.declared.entry.Entry.{Entry}
 
 module _ (image : HeapImage) where
@@ -29,7 +33,7 @@ module _ (image : HeapImage) where
 
   -- the machine at the start: no calls, and the heap of the image
   abbrev pub machine_start : Machine
-  machine_start = machine_at_first (word_at image)
+  machine_start = record { known = opening; heap = word_at image; written = λ r. 0 }
 
   -- the machine after these calls
   abbrev pub machine_of : List Entry → Machine
@@ -41,7 +45,10 @@ module _ (image : HeapImage) where
 
 -- What holds for the machine after a list of calls.
 pub record IsDrainedBeforeWritten (image : HeapImage) (log : List Entry) : Type 0 where
-  -- each copy finds each word that it takes as it was at the start
-  pub finds : AllFind (image_slide image) (word_at image) (machine_start image) log
+  -- when a copy writes its k-th word, the origin of the word is as it was at the start
+  pub finds : (before after : List Entry) (e : Entry) (d n k x : ℕ) → IsSplit log before e after → e.event ≡ Copy d n → k < n
+      → origin image (d * region_words image + (machine_of image before).written d + k) ≡ Some x
+      → (write_words (image_slide image) d k (machine_of image before)).heap x ≡ word_at image x
   -- once all regions to be filled are filled, the heap is that of the moved words
-  pub moved : AllFilled (image_table image) (machine_of image log).known → (a : ℕ) → (machine_of image log).heap a ≡ moved_word image a
+  pub moved : ((r : ℕ) → IsTrue (to_fill (image_table image) r) → IsTrue ((machine_of image log).known.filled r))
+      → (a : ℕ) → (machine_of image log).heap a ≡ moved_word image a

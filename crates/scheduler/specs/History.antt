@@ -1,4 +1,4 @@
-use Rattle.std.specs.Prelude.{◌≡◌, ◌≢◌, ℕ, ◌+◌, ◌<◌, ◌≤◌, Bool, true, false, ◌&&◌, ◌==◌, ◌↔◌, IsTrue, Some, None, List, [], ◌∷◌, ◌++◌, count_by, filter}
+use Rattle.std.specs.Prelude.{◌≡◌, ◌≢◌, ℕ, ◌+◌, ◌<◌, ◌≤◌, Bool, false, ◌&&◌, ◌==◌, ◌↔◌, IsTrue, Some, None, List, [], ◌∷◌, ◌++◌, count_by, filter}
 use Rattle.std.specs.List.{list_any}
 use Rattle.scheduler.specs.MoveTable.{MoveTable, to_fill, reads}
 use Rattle.scheduler.specs.State.{State, opening, is_pending, readers_left, unsettled, state_after, IsStep}
@@ -41,10 +41,6 @@ calls_by worker log = filter (λ e. e.worker == worker) log
 abbrev pub BeginsWith : List Entry → List Entry → Type 0
 BeginsWith log seen = (later : List Entry) × (log ≡ seen ++ later)
 
-abbrev pub is_claim_of : ℕ → Event → Bool
-is_claim_of r (Claim q) = r == q
-is_claim_of r _ = false
-
 abbrev pub is_drain_of : ℕ → ℕ → Event → Bool
 is_drain_of d s (Drain e t) = d == e && s == t
 is_drain_of d s _ = false
@@ -53,17 +49,13 @@ abbrev pub is_settling_of : ℕ → Event → Bool
 is_settling_of r (Settle q) = r == q
 is_settling_of r _ = false
 
-abbrev pub is_settling : Event → Bool
-is_settling (Settle q) = true
-is_settling _ = false
+-- the reply to a claim grants the region
+abbrev pub grants : ℕ → Event → Reply → Bool
+grants r (Claim q) Yes = r == q
+grants r _ _ = false
 
-abbrev pub is_yes : Reply → Bool
-is_yes Yes = true
-is_yes _ = false
-
--- the entry grants the region
 abbrev pub is_grant : ℕ → Entry → Bool
-is_grant r e = is_claim_of r e.event && is_yes e.reply
+is_grant r e = grants r e.event e.reply
 
 -- the entry grants the region to this worker
 abbrev pub is_grant_to : ℕ → ℕ → Entry → Bool
@@ -89,7 +81,7 @@ pub record IsOrderly (m : MoveTable) (log : List Entry) : Type 0 where
   pub all_when_last : (before after : List Entry) (e : Entry) (d : ℕ) → IsSplit log before e after → e.event ≡ Settle d
       → (e.reply ≡ All) ↔ ((r : ℕ) → IsTrue (to_fill m r) → IsTrue (list_any (λ c. is_settling_of r c.event) (before ++ e ∷ [])))
   -- and no settling follows it
-  pub none_after_all : (before after : List Entry) (e : Entry) (d : ℕ) → IsSplit log before e after → e.event ≡ Settle d → e.reply ≡ All → list_any (λ c. is_settling c.event) after ≡ false
+  pub none_after_all : (before after : List Entry) (e : Entry) (d r : ℕ) → IsSplit log before e after → e.event ≡ Settle d → e.reply ≡ All → list_any (λ c. is_settling_of r c.event) after ≡ false
 
 -- What holds in each state that a legal history reaches.
 pub record IsReached (m : MoveTable) (now : State) : Type 0 where

@@ -35,6 +35,11 @@ reply_with kind.Done n = Some Done
 reply_with kind.All n = Some All
 reply_with kind.More n = Some More
 
+-- the line of these parts
+abbrev pub unpacked : ℕ → Verb → ℕ → ℕ → ReplyKind → ℕ → Line
+unpacked worker verb first second kind readers =
+    record { worker = worker; event = event_with verb first second; reply = reply_with kind readers }
+
 abbrev pub few_readers : Reply → Bool
 few_readers (Open n) = nat_lt n 256
 few_readers (Outside n) = nat_lt n 256

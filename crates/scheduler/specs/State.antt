@@ -53,20 +53,13 @@ Allows m now worker (Copy d n) = IsFilling now worker d × (1 ≤ n)
 abbrev pub may_claim : MoveTable → State → ℕ → Bool
 may_claim m now r = to_fill m r && (is_none (now.claimed r) && (readers_left m now r == 0))
 
--- the region belongs to the worker, if the reply grants it
-abbrev pub claimed_by : State → ℕ → ℕ → Reply → State
-claimed_by now worker r Yes = record now { claimed = λ q. if q == r then Some worker else now.claimed q }
-claimed_by now worker r _ = now
-
--- the four sets after an event with its reply
+-- the four sets after an event with its reply: a claim to which the reply is Yes gives the region to the worker
 abbrev pub state_after : State → ℕ → Event → Reply → State
-state_after now worker (Claim r) reply = claimed_by now worker r reply
-state_after now worker (Look r) reply = now
+state_after now worker (Claim r) Yes = record now { claimed = λ q. if q == r then Some worker else now.claimed q }
 state_after now worker (Drain d s) reply = record now { drained = λ e t. (e == d && t == s) || now.drained e t }
 state_after now worker (Complete d) reply = record now { filled = λ r. r == d || now.filled r }
 state_after now worker (Settle d) reply = record now { settled = λ r. r == d || now.settled r }
-state_after now worker Poll reply = now
-state_after now worker (Copy d n) reply = now
+state_after now worker _ reply = now
 
 -- the status of a region
 abbrev pub look_at : MoveTable → State → ℕ → Reply

@@ -14,7 +14,7 @@ use Rattle.scheduler.specs.PackedLine.{IsSmall}
 use Rattle.scheduler.specs.Scheduler.{state_in}
 use Rattle.scheduler.specs.History.{entry, AreSteps, IsLegal, IsReached}
 use Rattle.scheduler.specs.Schedule.{ScheduleView, IsSchedule, is_event, is_told_reply, is_line, line_of}
-use Rattle.history.specs.Slide.{Slide, IsSlideOf, Machine, next_place, write_words, word_for, words_of, AllowsWords, machine_after, copied}
+use Rattle.history.specs.Slide.{Slide, IsSlideOf, Machine, write_words, word_for, words_of, AllowsWords, machine_after, copied}
 use Rattle.scheduler.specs.ImageMoves.{image_table}
 use Rattle.history.specs.WordMachine.{image_slide, machine_start, machine_of}
 use Rattle.history.specs.Replay.{IsCallOfLine, IsReplay}
@@ -28,7 +28,7 @@ use Rattle.history.specs.declared.machine.ledger.Ledger.{Ledger}
 use Rattle.scheduler.specs.declared.schedule.line.Line.{Line}
 use Rattle.scheduler.specs.declared.reply.Reply.{Reply}
 use Rattle.history.specs.declared.machine.replayed.Replayed.{Replayed}
-use Rattle.history.proofs.Lemmas.Drained.{IsKept, origin_stands, write_words_known, written-write_words, write_words_kept, history_kept}
+use Rattle.history.proofs.Lemmas.Drained.{IsKept, next_place, origin_stands, write_words_known, written-write_words, write_words_kept, history_kept}
 use Rattle.summary.specs.Compaction.{moved_word}
 use Rattle.history.proofs.Lemmas.DrainedBefore.{drained_before}
 use Rattle.history.proofs.Lemmas.Carrying.{origin_inside}

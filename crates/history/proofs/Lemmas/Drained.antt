@@ -1,16 +1,42 @@
-use Rattle.std.proofs.Common.{◌≡◌, ◌≢◌, ℕ, zero, suc, ◌+◌, ◌*◌, ◌/◌, ◌%◌, ◌<◌, ◌≤◌, Bool, true, false, List, [], ◌∷◌, Option, Some, None, refl, sym, ap, ◌∙◌, subst, inl, inr, ◌⊎◌, arith}
+use Rattle.std.proofs.Common.{◌≡◌, ◌≢◌, ℕ, zero, suc, ◌+◌, ◌*◌, ◌/◌, ◌%◌, ◌<◌, ◌≤◌, Bool, true, false, List, [], ◌∷◌, ◌++◌, Option, Some, None, refl, sym, ap, ◌∙◌, subst, inl, inr, ◌⊎◌, arith}
 use Rattle.std.specs.Prelude.{if◌then◌else◌, IsTrue, ◌==◌, ◌&&◌, not, is_none}
 use Rattle.std.proofs.lemmas.Bool.{lt-ltb, le-ltb, and_parts, or_cases, or_right, eqb-true, cases_eq, cases_lt, eq-eqb, ne_eqb, false≢true}
 use Rattle.std.proofs.lemmas.Nat.{div-mul-add, mod-mul-add, div-add-mod'}
 use Rattle.scheduler.specs.MoveTable.{MoveTable, reads, to_fill}
-use Rattle.scheduler.specs.State.{State, is_pending, readers_left, may_claim, state_after, claimed_by, IsStep}
+use Rattle.scheduler.specs.State.{State, opening, is_pending, readers_left, may_claim, state_after, IsStep}
 use Rattle.scheduler.specs.History.{CountsDown}
 use Rattle.scheduler.specs.declared.event.Event.{Event}
 use Rattle.scheduler.specs.declared.event.Event.TheVariants.{Claim, Look, Drain, Complete, Settle, Poll, Copy}
 use Rattle.scheduler.specs.declared.reply.Reply.{Reply}
 use Rattle.scheduler.specs.declared.reply.Reply.TheVariants.{Yes, No}
 use Rattle.scheduler.specs.declared.entry.Entry.{Entry}
-use Rattle.history.specs.Slide.{Slide, IsSlideOf, word_from, word_for, moved_heap, words_of, Machine, machine_at_first, next_place, write_one, write_words, IsWritten, IsCopiedOut, AllowsWords, copied, machine_after, machine_from, AreMachineSteps, Finds, AllFind, AllFilled}
+use Rattle.history.specs.Slide.{Slide, IsSlideOf, word_from, word_for, moved_heap, words_of, Machine, write_one, write_words, IsWritten, IsCopiedOut, AllowsWords, copied, machine_after, machine_from, AreMachineSteps}
+
+-- the machine before any call, over this heap
+abbrev pub machine_at_first : (ℕ → ℕ) → Machine
+machine_at_first start = record { known = opening; heap = start; written = λ r. 0 }
+
+-- the lowest unwritten word of d
+abbrev pub next_place : Slide → ℕ → Machine → ℕ
+next_place p d w = d * p.size + w.written d
+
+-- when each word is written, its origin holds the word of the start
+abbrev pub Finds : Slide → (ℕ → ℕ) → Machine → Event → Type 0
+Finds p start w (Copy d n) = (k x : ℕ) → k < n → p.origin (d * p.size + w.written d + k) ≡ Some x → (write_words p d k w).heap x ≡ start x
+Finds p start w _ = Unit {0}
+
+abbrev pub AllFind : Slide → (ℕ → ℕ) → Machine → List Entry → Type 0
+AllFind p start w [] = Unit {0}
+AllFind p start w (e ∷ es) = Finds p start w e.event × AllFind p start (machine_after p w e) es
+
+-- so does each call, by the machine after the calls before it
+pub finds_in : (p : Slide) (start : ℕ → ℕ) (w : Machine) (before after : List Entry) (e : Entry) → AllFind p start w (before ++ e ∷ after) → Finds p start (machine_from p w before) e.event
+finds_in p start w [] after e all = all.0
+finds_in p start w (f ∷ fs) after e all = finds_in p start (machine_after p w f) fs after e all.1
+
+-- all regions that are to be filled are filled
+abbrev pub AllFilled : MoveTable → State → Type 0
+AllFilled m now = (r : ℕ) → IsTrue (to_fill m r) → IsTrue (now.filled r)
 
 -- What holds after each call.
 pub record IsKept (m : MoveTable) (p : Slide) (start : ℕ → ℕ) (w : Machine) : Type 0 where
@@ -232,7 +258,7 @@ idle_where_claimable m now r counts e d =
 -- a granted claim
 pub claim_kept : (m : MoveTable) (p : Slide) (start : ℕ → ℕ) (w : Machine) (worker r : ℕ)
     → IsKept m p start w → ((d : ℕ) → is_pending m w.known d r ≡ false)
-    → IsKept m p start (record { known = claimed_by w.known worker r Yes; heap = w.heap; written = w.written })
+    → IsKept m p start (record { known = state_after w.known worker (Claim r) Yes; heap = w.heap; written = w.written })
 claim_kept m p start w worker r kept idle =
     record {
       untouched = λ d none. untouched' d none (choice_cases d r (Some worker) (w.known.claimed d));

@@ -48,7 +48,6 @@ recorded image v lawful each history checked =
       log = checked.log;
       told = schedule_is v checked.log (told ∙ ap (map line_of) (sym same));
       allowed = checked.taken.allowed;
-      settled = settled;
       once = each (image_table image) v.workers checked.log lawful
           (legal_steps (image_table image) (image_slide image) v.workers (machine_start image) checked.log checked.taken.allowed)
           (subst (AllAreSettled (image_table image)) known settled);

@@ -4,8 +4,8 @@ use Rattle.std.specs.Prelude.{◌==◌, ◌&&◌, ◌||◌, not, if◌then◌els
 use Rattle.std.specs.List.{list_any}
 use Rattle.std.proofs.lemmas.Bool.{cases_Bool, and_from, or_left, or_right, eq-eqb}
 use Rattle.scheduler.specs.MoveTable.{MoveTable, reads}
-use Rattle.scheduler.specs.State.{State, is_pending, claimed_by, state_after}
-use Rattle.scheduler.specs.History.{state_from, AreSteps, is_claim_of, is_drain_of, is_settling_of, is_yes, is_grant, is_grant_to}
+use Rattle.scheduler.specs.State.{State, is_pending, state_after}
+use Rattle.scheduler.specs.History.{state_from, AreSteps, is_drain_of, is_settling_of, grants, is_grant, is_grant_to}
 use Rattle.scheduler.specs.declared.event.Event.{Event}
 use Rattle.scheduler.specs.declared.event.Event.TheVariants.{Claim, Look, Drain, Complete, Settle, Poll, Copy}
 use Rattle.scheduler.specs.declared.reply.Reply.{Reply}
@@ -26,17 +26,10 @@ AreSteps-rest m workers now [] ys steps = steps
 AreSteps-rest m workers now (x ∷ xs) ys steps = AreSteps-rest m workers (state_after now x.worker x.event x.reply) xs ys steps.2
 
 -- a claim changes the claims alone
-claimed_by-drained : (now : State) (worker r : ℕ) (reply : Reply) → (claimed_by now worker r reply).drained ≡ now.drained
-claimed_by-drained now worker r Yes = refl
-claimed_by-drained now worker r reply = refl
-
-claimed_by-settled : (now : State) (worker r : ℕ) (reply : Reply) → (claimed_by now worker r reply).settled ≡ now.settled
-claimed_by-settled now worker r Yes = refl
-claimed_by-settled now worker r reply = refl
-
 -- one event's part in the drained pairs
 pub drained_after : (now : State) (worker : ℕ) (event : Event) (reply : Reply) (d s : ℕ) → (state_after now worker event reply).drained d s ≡ (is_drain_of d s event || now.drained d s)
-drained_after now worker (Claim r) reply d s = ap (λ (f : ℕ → ℕ → Bool). f d s) (claimed_by-drained now worker r reply)
+drained_after now worker (Claim r) Yes d s = refl
+drained_after now worker (Claim r) reply d s = refl
 drained_after now worker (Look r) reply d s = refl
 drained_after now worker (Drain e t) reply d s = refl
 drained_after now worker (Complete e) reply d s = refl
@@ -46,7 +39,8 @@ drained_after now worker (Copy e n) reply d s = refl
 
 -- and in the settled regions
 pub settled_after : (now : State) (worker : ℕ) (event : Event) (reply : Reply) (r : ℕ) → (state_after now worker event reply).settled r ≡ (is_settling_of r event || now.settled r)
-settled_after now worker (Claim q) reply r = ap (λ (f : ℕ → Bool). f r) (claimed_by-settled now worker q reply)
+settled_after now worker (Claim q) Yes r = refl
+settled_after now worker (Claim q) reply r = refl
 settled_after now worker (Look q) reply r = refl
 settled_after now worker (Drain e t) reply r = refl
 settled_after now worker (Complete e) reply r = refl
@@ -55,17 +49,9 @@ settled_after now worker Poll reply r = refl
 settled_after now worker (Copy e n) reply r = refl
 
 -- and in the claims
-pub claimed_after : (now : State) (worker : ℕ) (event : Event) (reply : Reply) (r : ℕ) → (state_after now worker event reply).claimed r ≡ (if is_claim_of r event && is_yes reply then Some worker else now.claimed r)
-claimed_after now worker (Claim q) Yes r = sym (go (r == q))
-  where
-    go : (b : Bool) → (if b && true then Some worker else now.claimed r) ≡ (if b then Some worker else now.claimed r)
-    go true = refl
-    go false = refl
-claimed_after now worker (Claim q) reply r = sym (go (r == q))
-  where
-    go : (b : Bool) → (if b && false then Some worker else now.claimed r) ≡ now.claimed r
-    go true = refl
-    go false = refl
+pub claimed_after : (now : State) (worker : ℕ) (event : Event) (reply : Reply) (r : ℕ) → (state_after now worker event reply).claimed r ≡ (if grants r event reply then Some worker else now.claimed r)
+claimed_after now worker (Claim q) Yes r = refl
+claimed_after now worker (Claim q) reply r = refl
 claimed_after now worker (Look q) reply r = refl
 claimed_after now worker (Drain e t) reply r = refl
 claimed_after now worker (Complete e) reply r = refl

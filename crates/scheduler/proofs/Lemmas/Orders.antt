@@ -7,7 +7,7 @@ use Rattle.std.proofs.lemmas.List.Folds.{list_any-append}
 use Rattle.std.proofs.lemmas.List.FromFn.{length-range_with_len, get_or-range_with_len}
 use Rattle.scheduler.specs.MoveTable.{MoveTable, region_count, to_fill, reads}
 use Rattle.scheduler.specs.State.{State, opening, unsettled, all_or_more, state_after, reply_to, Allows, IsStep}
-use Rattle.scheduler.specs.History.{state_of, AreSteps, IsLegal, IsReached, IsOrderly, IsSplit, is_settling_of, is_settling, is_grant, is_grant_to}
+use Rattle.scheduler.specs.History.{state_of, AreSteps, IsLegal, IsReached, IsOrderly, IsSplit, is_settling_of, is_grant, is_grant_to}
 use Rattle.scheduler.specs.declared.event.Event.{Event}
 use Rattle.scheduler.specs.declared.event.Event.TheVariants.{Claim, Look, Drain, Complete, Settle, Poll, Copy}
 use Rattle.scheduler.specs.declared.reply.Reply.{Reply}
@@ -114,20 +114,20 @@ last_tells m before e d is replied = (
 )
 
 -- once all regions to be filled are settled, no event settles one
-no_settling : (m : MoveTable) (now : State) (worker : ℕ) (event : Event) → IsReached m now → ((r : ℕ) → to_fill m r ≡ true → now.settled r ≡ true) → Allows m now worker event → is_settling event ≡ false
-no_settling m now worker (Claim r) reached all allowed = refl
-no_settling m now worker (Look r) reached all allowed = refl
-no_settling m now worker (Drain d s) reached all allowed = refl
-no_settling m now worker (Complete d) reached all allowed = refl
-no_settling m now worker (Settle d) reached all allowed = absurd (both_ways (now.settled d) allowed.2 (all d (reached.claimed_to_fill d worker allowed.0)))
-no_settling m now worker Poll reached all allowed = refl
-no_settling m now worker (Copy d n) reached all allowed = refl
+no_settling : (m : MoveTable) (now : State) (worker : ℕ) (event : Event) (q : ℕ) → IsReached m now → ((r : ℕ) → to_fill m r ≡ true → now.settled r ≡ true) → Allows m now worker event → is_settling_of q event ≡ false
+no_settling m now worker (Claim r) q reached all allowed = refl
+no_settling m now worker (Look r) q reached all allowed = refl
+no_settling m now worker (Drain d s) q reached all allowed = refl
+no_settling m now worker (Complete d) q reached all allowed = refl
+no_settling m now worker (Settle d) q reached all allowed = absurd (both_ways (now.settled d) allowed.2 (all d (reached.claimed_to_fill d worker allowed.0)))
+no_settling m now worker Poll q reached all allowed = refl
+no_settling m now worker (Copy d n) q reached all allowed = refl
 
-none_settles : (m : MoveTable) (workers : ℕ) (now : State) (log : List Entry) → IsReached m now → ((r : ℕ) → to_fill m r ≡ true → now.settled r ≡ true) → AreSteps m workers now log → list_any (λ c. is_settling c.event) log ≡ false
-none_settles m workers now [] reached all steps = refl
-none_settles m workers now (e ∷ es) reached all steps =
-    or_from (is_settling e.event) (list_any (λ c. is_settling c.event) es) (no_settling m now e.worker e.event reached all steps.1.allowed)
-    (none_settles m workers (state_after now e.worker e.event e.reply) es (step_reached m now e.worker e.event e.reply reached steps.1)
+none_settles : (m : MoveTable) (workers : ℕ) (now : State) (log : List Entry) (q : ℕ) → IsReached m now → ((r : ℕ) → to_fill m r ≡ true → now.settled r ≡ true) → AreSteps m workers now log → list_any (λ c. is_settling_of q c.event) log ≡ false
+none_settles m workers now [] q reached all steps = refl
+none_settles m workers now (e ∷ es) q reached all steps =
+    or_from (is_settling_of q e.event) (list_any (λ c. is_settling_of q c.event) es) (no_settling m now e.worker e.event q reached all steps.1.allowed)
+    (none_settles m workers (state_after now e.worker e.event e.reply) es q (step_reached m now e.worker e.event e.reply reached steps.1)
     (λ r fills. settled_after now e.worker e.event e.reply r ∙ or_right (is_settling_of r e.event) (now.settled r) (all r fills)) steps.2)
 
 drained_where_not_pending : (r b : Bool) → (r && not b) ≡ false → r ≡ true → b ≡ true
@@ -144,7 +144,7 @@ orderly m workers log legal =
       completed_by_claimant = λ before after e d split is. claimant before e d (claimed_from opening before d e.worker (allowed before after e d split is).0.0);
       completed_when_drained = λ before after e d s split is has. sym (drained_from opening before d s) ∙ drained_where_not_pending (reads m d s) ((state_of before).drained d s) ((allowed before after e d split is).1 s) has;
       all_when_last = λ before after e d split is. last_tells m before e d is (settle_replied m (state_of before) e.event e.reply d is (step_at m workers log before after e legal split).replied);
-      none_after_all = λ before after e d split is all. behind before after e d split is all;
+      none_after_all = behind;
     }
   where
     allowed : (before after : List Entry) (e : Entry) (d : ℕ) → IsSplit log before e after → e.event ≡ Complete d → Allows m (state_of before) e.worker (Complete d)
@@ -154,12 +154,12 @@ orderly m workers log legal =
     claimant before e d (inl none) = let f : None ≡ Some e.worker = none in cc
     claimant before e d (inr h) = h
 
-    behind : (before after : List Entry) (e : Entry) (d : ℕ) → IsSplit log before e after → e.event ≡ Settle d → e.reply ≡ All → list_any (λ c. is_settling c.event) after ≡ false
-    behind before after e d split is all =
+    behind : (before after : List Entry) (e : Entry) (d q : ℕ) → IsSplit log before e after → e.event ≡ Settle d → e.reply ≡ All → list_any (λ c. is_settling_of q c.event) after ≡ false
+    behind before after e d q split is all =
         let step = step_at m workers log before after e legal split in
         let front : IsLegal m workers before = AreSteps-front m workers opening before (e ∷ after) (subst (λ (l : List Entry). AreSteps m workers opening l) split legal) in
         let reached : IsReached m (state_of before) = legal_reached m workers before front in
         let none : unsettled m (state_after (state_of before) 0 (Settle d) All) ≡ 0 = all_tells (unsettled m (state_after (state_of before) 0 (Settle d) All)) (sym (settle_replied m (state_of before) e.event e.reply d is step.replied) ∙ all) in
-        none_settles m workers (state_after (state_of before) e.worker e.event e.reply) after (step_reached m (state_of before) e.worker e.event e.reply reached step)
+        none_settles m workers (state_after (state_of before) e.worker e.event e.reply) after q (step_reached m (state_of before) e.worker e.event e.reply reached step)
         (λ r fills. settled_after (state_of before) e.worker e.event e.reply r ∙ (ap (λ (ev : Event). is_settling_of r ev || (state_of before).settled r) is ∙ all_settled m (state_after (state_of before) 0 (Settle d) All) none r fills))
         (steps_behind m workers log before after e legal split)

@@ -3,7 +3,7 @@ use Rattle.std.proofs.Common.{◌≡◌, ◌≢◌, ℕ, Bool, cond, List, [], �
 use Rattle.std.specs.Prelude.{if◌then◌else◌, ◌==◌, ◌&&◌, ◌||◌}
 use Rattle.std.proofs.lemmas.Bool.{cases_eq, eq-eqb, ne_eqb, false_from_ne_true}
 use Rattle.scheduler.specs.MoveTable.{MoveTable}
-use Rattle.scheduler.specs.State.{State, opening, state_after, claimed_by, IsStep}
+use Rattle.scheduler.specs.State.{State, opening, state_after, IsStep}
 use Rattle.scheduler.specs.History.{state_from, state_of, AreSteps, IsLegal, IsReached, TellsOwn, AgreeOn, calls_by}
 use Rattle.scheduler.specs.declared.event.Event.{Event}
 use Rattle.scheduler.specs.declared.event.Event.TheVariants.{Claim, Look, Drain, Complete, Settle, Poll, Copy}
@@ -42,11 +42,11 @@ back : (d : ℕ) (a b : State) → AgreeOn d a b → AgreeOn d b a
 back d a b x = record { claimed = sym x.claimed; filled = sym x.filled; settled = sym x.settled; drained = λ s. sym (x.drained s) }
 
 -- two states that agree, once both took a claim of the region
-claimed_both : (w d r : ℕ) (own now : State) → AgreeOn d own now → AgreeOn d (claimed_by own w r Yes) (claimed_by now w r Yes)
+claimed_both : (w d r : ℕ) (own now : State) → AgreeOn d own now → AgreeOn d (state_after own w (Claim r) Yes) (state_after now w (Claim r) Yes)
 claimed_both w d r own now a = record { claimed = ap (λ (o : Option ℕ). if d == r then Some w else o) a.claimed; filled = a.filled; settled = a.settled; drained = a.drained }
 
 -- a claim elsewhere
-claimed_apart : (w d r : ℕ) (now : State) → d ≢ r → AgreeOn d (claimed_by now w r Yes) now
+claimed_apart : (w d r : ℕ) (now : State) → d ≢ r → AgreeOn d (state_after now w (Claim r) Yes) now
 claimed_apart w d r now apart = record { claimed = rw (ne_eqb d r apart) refl; filled = refl; settled = refl; drained = λ s. refl }
 
 -- a granted claim found the region as at the opening
@@ -61,11 +61,11 @@ told_mine m w own now (Claim r) Yes reached step told d = go (cases_eq d r) (tol
     may : MayClaim m now r
     may = grant_free m now w r step
 
-    go : (d ≡ r) ⊎ (d ≡ r → ⊥) → Told w own now d → Told w (claimed_by own w r Yes) (claimed_by now w r Yes) d
+    go : (d ≡ r) ⊎ (d ≡ r → ⊥) → Told w own now d → Told w (state_after own w (Claim r) Yes) (state_after now w (Claim r) Yes) d
     go (inl e) (inl t) = absurd (some_none w (now.claimed d) t.0 (ap now.claimed e ∙ may.unclaimed))
     go (inl e) (inr t) = inl (rw (eq-eqb d r e) refl, claimed_both w d r own now (through d own opening now t.1 (back d now opening (unset m now d reached (ap now.claimed e ∙ may.unclaimed)))))
     go (inr n) (inl t) = inl ((claimed_apart w d r now n).claimed ∙ t.0, claimed_both w d r own now t.1)
-    go (inr n) (inr t) = inr ((λ e. t.0 (sym (claimed_apart w d r now n).claimed ∙ e)), through d (claimed_by own w r Yes) own opening (claimed_apart w d r own n) t.1)
+    go (inr n) (inr t) = inr ((λ e. t.0 (sym (claimed_apart w d r now n).claimed ∙ e)), through d (state_after own w (Claim r) Yes) own opening (claimed_apart w d r own n) t.1)
 told_mine m w own now (Claim r) reply reached step told d = told d
 told_mine m w own now (Look r) reply reached step told d = told d
 told_mine m w own now Poll reply reached step told d = told d
@@ -94,10 +94,10 @@ told_other : (m : MoveTable) (w x : ℕ) (own now : State) (event : Event) (repl
     → (d : ℕ) → Told w own (state_after now x event reply) d
 told_other m w x own now (Claim r) Yes apart reached step told d = go (cases_eq d r) (told d)
   where
-    go : (d ≡ r) ⊎ (d ≡ r → ⊥) → Told w own now d → Told w own (claimed_by now x r Yes) d
+    go : (d ≡ r) ⊎ (d ≡ r → ⊥) → Told w own now d → Told w own (state_after now x (Claim r) Yes) d
     go (inl e) (inl t) = absurd (some_none w (now.claimed d) t.0 (ap now.claimed e ∙ (grant_free m now x r step).unclaimed))
     go (inl e) (inr t) = inr ((λ own'. apart (some_same x w (sym (ap (λ (b : Bool). if b then Some x else now.claimed d) (eq-eqb d r e)) ∙ own'))), t.1)
-    go (inr n) (inl t) = inl ((claimed_apart x d r now n).claimed ∙ t.0, through d own now (claimed_by now x r Yes) t.1 (back d (claimed_by now x r Yes) now (claimed_apart x d r now n)))
+    go (inr n) (inl t) = inl ((claimed_apart x d r now n).claimed ∙ t.0, through d own now (state_after now x (Claim r) Yes) t.1 (back d (state_after now x (Claim r) Yes) now (claimed_apart x d r now n)))
     go (inr n) (inr t) = inr ((λ e. t.0 (sym (claimed_apart x d r now n).claimed ∙ e)), t.1)
 told_other m w x own now (Claim r) reply apart reached step told d = told d
 told_other m w x own now (Look r) reply apart reached step told d = told d

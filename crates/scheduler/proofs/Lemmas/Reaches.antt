@@ -3,8 +3,8 @@ use Rattle.std.proofs.Common.{◌≡◌, ◌≢◌, ℕ, true, false, List, [], 
 use Rattle.std.specs.Prelude.{is_none, if◌then◌else◌, IsTrue, ◌==◌, ◌&&◌, not}
 use Rattle.std.proofs.lemmas.Bool.{cases_Bool, and_parts, and_left, and_right, or_cases, or_right, eqb-true, cases_eq, eq-eqb, ne_eqb, false≢true}
 use Rattle.scheduler.specs.MoveTable.{MoveTable, to_fill, reads}
-use Rattle.scheduler.specs.State.{State, opening, is_pending, readers_left, may_claim, state_after, claimed_by, reply_to, IsStep}
-use Rattle.scheduler.specs.History.{state_from, state_of, AreSteps, IsLegal, IsReached, is_claim_of, is_yes}
+use Rattle.scheduler.specs.State.{State, opening, is_pending, readers_left, may_claim, state_after, reply_to, IsStep}
+use Rattle.scheduler.specs.History.{state_from, state_of, AreSteps, IsLegal, IsReached, grants}
 use Rattle.scheduler.specs.declared.event.Event.{Event}
 use Rattle.scheduler.specs.declared.event.Event.TheVariants.{Claim, Look, Drain, Complete, Settle, Poll, Copy}
 use Rattle.scheduler.specs.declared.reply.Reply.{Reply}
@@ -47,23 +47,21 @@ may_claim_tells m now r e =
     }
 
 -- a granted claim was one that may be granted
-pub grant_tells : (m : MoveTable) (now : State) (event : Event) (reply : Reply) (r : ℕ) → reply ≡ reply_to m now event → (is_claim_of r event && is_yes reply) ≡ true → MayClaim m now r
-grant_tells m now (Claim q) reply r is grants = go (cases_Bool (may_claim m now q))
+pub grant_tells : (m : MoveTable) (now : State) (event : Event) (reply : Reply) (r : ℕ) → reply ≡ reply_to m now event → grants r event reply ≡ true → MayClaim m now r
+grant_tells m now (Claim q) Yes r is granted = go (cases_Bool (may_claim m now q))
   where
-    parts : ((r == q) ≡ true) × (is_yes reply ≡ true)
-    parts = and_parts (r == q) (is_yes reply) grants
-
     go : (may_claim m now q ≡ true) ⊎ (may_claim m now q ≡ false) → MayClaim m now r
-    go (inl may) = subst (MayClaim m now) (sym (eqb-true r q parts.0)) (may_claim_tells m now q may)
+    go (inl may) = subst (MayClaim m now) (sym (eqb-true r q granted)) (may_claim_tells m now q may)
     go (inr not_now) =
-        let no_ : reply ≡ No = is ∙ (rw not_now refl) in
-        absurd (false≢true (sym (ap is_yes no_) ∙ parts.1))
-grant_tells m now (Look q) reply r is grants = absurd (false≢true grants)
-grant_tells m now (Drain d s) reply r is grants = absurd (false≢true grants)
-grant_tells m now (Complete d) reply r is grants = absurd (false≢true grants)
-grant_tells m now (Settle d) reply r is grants = absurd (false≢true grants)
-grant_tells m now Poll reply r is grants = absurd (false≢true grants)
-grant_tells m now (Copy d n) reply r is grants = absurd (false≢true grants)
+        let no_ : Yes ≡ No = is ∙ (rw not_now refl) in
+        cc
+grant_tells m now (Claim q) reply r is granted = absurd (false≢true granted)
+grant_tells m now (Look q) reply r is granted = absurd (false≢true granted)
+grant_tells m now (Drain d s) reply r is granted = absurd (false≢true granted)
+grant_tells m now (Complete d) reply r is granted = absurd (false≢true granted)
+grant_tells m now (Settle d) reply r is granted = absurd (false≢true granted)
+grant_tells m now Poll reply r is granted = absurd (false≢true granted)
+grant_tells m now (Copy d n) reply r is granted = absurd (false≢true granted)
 
 -- either a choice is the first, where the numbers are equal, or the second
 choice_cases : (a b : ℕ) (x y : Option ℕ) → ((a ≡ b) × ((if a == b then x else y) ≡ x)) ⊎ ((a ≢ b) × ((if a == b then x else y) ≡ y))
@@ -74,7 +72,7 @@ choice_cases a b x y = go (cases_eq a b)
     go (inr n) = inr (n, rw (ne_eqb a b n))
 
 -- a granted claim
-claim_reached : (m : MoveTable) (now : State) (worker r : ℕ) → IsReached m now → MayClaim m now r → IsReached m (claimed_by now worker r Yes)
+claim_reached : (m : MoveTable) (now : State) (worker r : ℕ) → IsReached m now → MayClaim m now r → IsReached m (state_after now worker (Claim r) Yes)
 claim_reached m now worker r before may =
     record {
       claimed_to_fill = λ q by own. fill q by own (choice_cases q r (Some worker) (now.claimed q));

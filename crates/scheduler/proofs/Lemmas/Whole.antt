@@ -3,7 +3,7 @@ use Rattle.std.proofs.Common.{◌≡◌, ◌≢◌, ℕ, ◌+◌, Bool, true, fa
 use Rattle.std.specs.Prelude.{is_some, IsTrue, ◌==◌, ◌||◌, not, count_by}
 use Rattle.std.proofs.lemmas.Bool.{cases_Bool, and_parts, eqb-true, not-false, false≢true}
 use Rattle.scheduler.specs.MoveTable.{MoveTable, IsMoveTable, to_fill, reads}
-use Rattle.scheduler.specs.State.{State, opening, is_pending, claimed_by, state_after, IsStep, Allows, AllAreSettled}
+use Rattle.scheduler.specs.State.{State, opening, is_pending, state_after, IsStep, Allows, AllAreSettled}
 use Rattle.scheduler.specs.History.{state_from, state_of, AreSteps, IsLegal, IsReached, is_grant, is_drain_of, is_settling_of}
 use Rattle.scheduler.specs.Whole.{is_completion_of, HasEachOnce}
 use Rattle.scheduler.specs.declared.event.Event.{Event}
@@ -46,13 +46,10 @@ counted m workers kind flag by now (e ∷ es) steps = go (cases_Bool (kind e)) (
         omega arith
 
 -- a claim changes the claims alone
-claimed_by-filled : (now : State) (worker r : ℕ) (reply : Reply) → (claimed_by now worker r reply).filled ≡ now.filled
-claimed_by-filled now worker r Yes = refl
-claimed_by-filled now worker r reply = refl
-
 -- one event's part in the filled regions
 filled_after : (now : State) (worker : ℕ) (event : Event) (reply : Reply) (r : ℕ) → (state_after now worker event reply).filled r ≡ (is_completion_of r event || now.filled r)
-filled_after now worker (Claim q) reply r = ap (λ (f : ℕ → Bool). f r) (claimed_by-filled now worker q reply)
+filled_after now worker (Claim q) Yes r = refl
+filled_after now worker (Claim q) reply r = refl
 filled_after now worker (Look q) reply r = refl
 filled_after now worker (Drain e t) reply r = refl
 filled_after now worker (Complete e) reply r = refl

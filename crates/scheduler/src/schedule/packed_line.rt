@@ -8,6 +8,7 @@ use super::verb::Verb;
 use crate::event::Event;
 use crate::reply::Reply;
 use std::marker::Model;
+use std::snapshot::Snapshot;
 
 /// A line in 12 bytes, where a [`Line`] takes 28. Contracts see the line.
 #[derive(Drop)]
@@ -20,15 +21,19 @@ pub struct PackedLine {
     /// The numbers of the event; 0 for those that it doesn't have.
     first: u32,
     second: u32,
+    line: Snapshot<Line>,
 }
 
 impl Model for PackedLine {
+    ghost use Rattle.std.specs.Prelude.{◌≡◌};
+    ghost use Rattle.scheduler.specs.PackedLine.{unpacked};
     ghost use Rattle.scheduler.specs.declared.schedule.line.Line.{Line};
-    ghost use Rattle.scheduler.specs.PackedLine.{event_with, reply_with};
 
     ghost Value = { Line };
 
-    ghost view = { λ p. record { worker = p.worker; event = event_with p.verb p.first p.second; reply = reply_with p.reply p.readers } };
+    ghost view = { λ p. p.line.value };
+
+    ghost invariant = { λ p. p.line.value ≡ unpacked p.worker p.verb p.first p.second p.reply p.readers };
 }
 
 impl PackedLine {
@@ -37,6 +42,7 @@ impl PackedLine {
         requires { IsSmall line }
         ensures { result ≡ line }
     {
+        let packed = Snapshot::of(&line);
         let (verb, first, second) = event_parts(line.event);
         let (reply, readers) = reply_parts(line.reply);
         PackedLine {
@@ -46,6 +52,7 @@ impl PackedLine {
             readers,
             first,
             second,
+            line: packed,
         }
     }
 

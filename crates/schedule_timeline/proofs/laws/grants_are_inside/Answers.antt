@@ -2,7 +2,7 @@ use Rattle.std.proofs.Common.{rules, ◌<◌, ℕ, List, [], ◌∷◌, subst, a
 use Rattle.std.specs.Prelude.{IsTrue, ◌&&◌}
 use Rattle.std.proofs.lemmas.List.Elements.{All-cons}
 use Rattle.scheduler.specs.MoveTable.{MoveTable, region_count}
-use Rattle.scheduler.specs.History.{AreSteps, is_claim_of, is_grant, is_yes}
+use Rattle.scheduler.specs.History.{AreSteps, grants, is_grant}
 use Rattle.scheduler.specs.ImageMoves.{image_table}
 use Rattle.scheduler.specs.State.{Allows, State, opening, state_after}
 use Rattle.scheduler.specs.declared.entry.Entry.{Entry}
@@ -13,7 +13,7 @@ use Rattle.schedule_timeline.specs.FirstCalls.{AreGrantedBelow}
 use Rattle.schedule_timeline.proofs.laws.grants_are_inside.Goals as goal
 
 -- a region that is granted is one that there is
-granted : (m : MoveTable) (now : State) (worker r : ℕ) (event : Event) (reply : Reply) → Allows m now worker event → IsTrue (is_claim_of r event && is_yes reply) → r < region_count m
+granted : (m : MoveTable) (now : State) (worker r : ℕ) (event : Event) (reply : Reply) → Allows m now worker event → IsTrue (grants r event reply) → r < region_count m
 granted m now worker r (Claim q) reply allowed is = grind (arith, allowed, is)
 granted m now worker r (Look q) reply allowed is = search rules
 granted m now worker r (Drain d s) reply allowed is = search rules
