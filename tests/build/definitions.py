@@ -35,6 +35,10 @@ HEADLINE = {
                 "claim_board::Ticket::right#owner", "region_cells::Cells::read#opening", "region_cells::Cells::write#right"],
     "result": ["collector::collect#image", "collector::collect#legal"],
 }
+# The clauses that carry what is promised besides of histories, words, bytes, records and verdicts.
+FURTHER = ["scheduler::legal_histories_are_orderly", "history::drained_before_written", "collector::collect_stream#text",
+           "collector::collect_stream#written", "collector::collect_stream#nothing_yet", "collector::record#image",
+           "collector::record#schedule", "verification::verify"]
 
 
 def find_definition(key: Key) -> Definition | None:
@@ -174,7 +178,8 @@ def wrong_counts(page: Page, closures: dict[str, Closure]) -> list[str]:
 
 def wrong_calls(page: Page) -> list[str]:
     """Of which parts the page names other calls."""
-    return [f"{name}: the page names other calls than {', '.join(calls)}" for name, calls in HEADLINE.items()
+    parts = HEADLINE | {"with further ones": FURTHER}
+    return [f"{name}: the page names other calls than {', '.join(calls)}" for name, calls in parts.items()
             if page.calls.get(name) != {call.split("::")[-1] for call in calls}]
 
 
@@ -190,14 +195,15 @@ def write_counts(closures: dict[str, Closure]) -> None:
 def check_page(write: bool) -> int:
     """Compares the page with the headline's definitions, after putting in their counts where asked. 1 where they differ."""
     closures = {name: Closure(calls) for name, calls in HEADLINE.items()}
-    closures |= {"all": Closure(all_calls()), "whole contracts": Closure(whole_calls()), "promises": Closure(promised_calls())}
+    closures |= {"all": Closure(all_calls()), "whole contracts": Closure(whole_calls()),
+                 "with further ones": Closure(all_calls() + FURTHER), "promises": Closure(promised_calls())}
     if write:
         write_counts(closures)
     page = Page((TOP / PAGE).read_text())
     wrong = wrong_names(page, closures["all"]) + wrong_counts(page, closures) + wrong_calls(page)
     for it in wrong:
         print(f"{PAGE}: {it}")
-    checks = len(page.definitions) + len(closures) + len(HEADLINE)
+    checks = len(page.definitions) + len(closures) + len(HEADLINE) + 1
     print(f"{max(checks - len(wrong), 0)} passed, {len(wrong)} failed")
     return 1 if wrong else 0
 

@@ -15,26 +15,22 @@ magic version = codes "PCHEAP0" ++ (48 + number_of version) ∷ []
 -- whether an image of this version has roots; otherwise it lists its live objects
 abbrev pub has_roots : Version → Bool
 has_roots One = false
-has_roots Two = true
-has_roots Three = true
+has_roots _ = true
 
 -- the largest region log
 abbrev pub max_region_log : Version → ℕ
-max_region_log One = 16
-max_region_log Two = 16
 max_region_log Three = 20
+max_region_log _ = 16
 
 -- the largest number of words
 abbrev pub max_words : Version → ℕ
-max_words One = 4194304
-max_words Two = 4194304
 max_words Three = 68719476736
+max_words _ = 4194304
 
 -- the largest number of regions
 abbrev pub max_regions : Version → ℕ
-max_regions One = 16384
-max_regions Two = 16384
 max_regions Three = 1048576
+max_regions _ = 16384
 
 -- this version allows these sizes
 pub record Allows (version : Version) (region_log words : ℕ) : Type 0 where
