@@ -4,6 +4,7 @@ pub mod WordMoves
 pub mod Fillers
 pub mod Compaction
 pub mod RegionData
+pub mod RegionRow
 pub mod Updates
 pub mod SameGraph
 pub mod Layout

@@ -25,6 +25,7 @@ pub mod laws;
 mod plan;
 mod reads;
 mod region_data;
+mod region_row;
 mod region_table;
 mod report_text;
 mod stride;

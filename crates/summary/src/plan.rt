@@ -177,7 +177,7 @@ impl Plan {
         requires { r < region_count self.now }
         ensures { result ≡ region_data self.now r }
     {
-        self.table.regions()[r as usize]
+        self.table.regions()[r as usize].to_data()
     }
 
     /// The new address of the live object at `a`. The marks are not looked at: the plan knows it by itself.

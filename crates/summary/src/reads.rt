@@ -6,7 +6,7 @@ ghost use Rattle.object_heap.specs.HeapImage.{region_count};
 ghost use Rattle.summary.specs.Plan.{sources_from};
 ghost use Rattle.summary.specs.Reads.{has_words, BeginAt};
 
-use crate::region_data::RegionData;
+use crate::region_row::RegionRow;
 use crate::region_table::RegionTable;
 use std::marker::Model;
 
@@ -15,7 +15,7 @@ use std::marker::Model;
 /// A contract sees the list of the regions that are left.
 #[derive(Drop)]
 pub struct Reads<'a> {
-    regions: &'a [RegionData],
+    regions: &'a [RegionRow],
     next: usize,
     end: u64,
 }
@@ -58,7 +58,7 @@ impl Iterator for Reads<'_> {
 
     fn next(&mut self) -> Option<u32> {
         let source = self.next + first_with_words(&self.regions[self.next..])?;
-        if self.regions[source].destination >= self.end {
+        if self.regions[source].destination() >= self.end {
             return None;
         }
         self.next = source + 1;
@@ -67,7 +67,7 @@ impl Iterator for Reads<'_> {
 }
 
 /// The index of the first region with live words.
-fn first_with_words(regions: &[RegionData]) -> Option<usize>
+fn first_with_words(regions: &[RegionRow]) -> Option<usize>
     ensures { result ≡ position has_words regions.now }
 {
     regions.iter().position(|region| region.words() > 0)
@@ -85,7 +85,7 @@ fn first_read(table: &RegionTable, d: u32) -> usize
     if u64::from(d) * table.region_words() < table.prefix_end() {
         return d as usize;
     }
-    match regions[d as usize].source {
+    match regions[d as usize].source() {
         Some(source) => source as usize,
         None => regions.len(),
     }

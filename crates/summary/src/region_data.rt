@@ -1,6 +1,4 @@
-//! The row of one region in the table.
-
-ghost use Rattle.std.specs.Prelude.{◌≡◌, ◌+◌};
+//! `RegionData`: what a plan says of one region.
 
 /// What a region holds and where it goes.
 #[derive(Debug, Clone, Copy, PartialEq, Eq)]
@@ -17,13 +15,4 @@ pub struct RegionData {
     /// The region whose word goes to the start of this one, if this one is to be filled and lies after the dense
     /// prefix.
     pub source: Option<u32>,
-}
-
-impl RegionData {
-    /// All live words of the region.
-    pub(crate) fn words(self) -> u64
-        ensures { result ≡ self.partial + self.live }
-    {
-        u64::from(self.partial) + u64::from(self.live)
-    }
 }

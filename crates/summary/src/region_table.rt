@@ -9,7 +9,7 @@ ghost use Rattle.summary.specs.Plan.{AreRegions};
 use crate::plan::layout::Layout;
 use crate::plan::region_counts::RegionCounts;
 use crate::plan::sources::set_sources;
-use crate::region_data::RegionData;
+use crate::region_row::RegionRow;
 use heap_image::Image;
 use std::alloc::{AllocError, Global};
 use std::marker::Model;
@@ -23,7 +23,7 @@ pub(crate) struct RegionTable {
     region_log: u32,
     prefix_end: u64,
     new_top: u64,
-    regions: Vec<RegionData>,
+    regions: Vec<RegionRow>,
 }
 
 impl Drop for RegionTable {
@@ -105,7 +105,7 @@ impl RegionTable {
         self.new_top
     }
 
-    pub(crate) fn regions(&self) -> &[RegionData]
+    pub(crate) fn regions(&self) -> &[RegionRow]
         ensures data { AreRegions self.now result.now }
         ensures number { length result.now ≡ region_count self.now }
         ensures valid { IsValid self.now }

@@ -14,7 +14,7 @@ pub(crate) fn report_of_table(alloc: Global, table: &RegionTable) -> Result<Stri
 {
     let mut text = String::new(alloc);
     for (r, region) in table.regions().iter().enumerate() {
-        write_line(&mut text, r as u64, *region)?;
+        write_line(&mut text, r as u64, region.to_data())?;
     }
     Ok(text)
 }

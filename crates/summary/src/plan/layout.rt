@@ -8,6 +8,7 @@ ghost use Rattle.summary.specs.Layout.{region_counts, placed_region, AreRegionCo
 
 use super::region_counts::RegionCounts;
 use crate::region_data::RegionData;
+use crate::region_row::RegionRow;
 use heap_image::{Image, header};
 use std::alloc::{AllocError, Global};
 
@@ -15,7 +16,7 @@ use std::alloc::{AllocError, Global};
 #[derive(Drop)]
 pub struct Layout {
     /// The data of each region; no region has a source.
-    pub regions: Vec<RegionData>,
+    pub regions: Vec<RegionRow>,
     /// The address at which the dense prefix ends.
     pub prefix_end: u64,
     /// The first free address after the collection.
@@ -36,7 +37,7 @@ impl Layout {
             if region.destination >= prefix {
                 next = region.destination + counts.live_words();
             }
-            regions.push(region)?;
+            regions.push(RegionRow::without_source(region))?;
         }
         Ok(Layout {
             regions,

@@ -58,6 +58,39 @@ impl Ranks {
         Ok(Ranks { starts, steps })
     }
 
+    /// The same numbers, borrowed.
+    #[inline]
+    pub(crate) fn as_slices(&self) -> RankSlices<'_>
+        ensures { result ≡ self.now }
+    {
+        RankSlices {
+            starts: self.starts.as_slice(),
+            steps: self.steps.as_slice(),
+        }
+    }
+}
+
+/// Borrowed [`Ranks`]: who reads many of them looks their lists up once.
+///
+/// A contract sees the list of these numbers.
+#[derive(Drop)]
+pub(crate) struct RankSlices<'a> {
+    starts: &'a [u64],
+    steps: &'a [u16],
+}
+
+impl<'a> Model for RankSlices<'a> {
+    ghost use Rattle.std.specs.Prelude.{ℕ, List};
+    ghost use Rattle.summary.specs.Ranks.{AreRanks, ranks_of};
+
+    ghost Value = { List ℕ };
+
+    ghost view = { λ r. ranks_of r.starts.now r.steps.now };
+
+    ghost invariant = { λ r. AreRanks r.starts.now r.steps.now };
+}
+
+impl RankSlices<'_> {
     /// The first number plus the number of bits set in all words before word `i`.
     #[inline]
     pub(crate) fn get(&self, i: usize) -> u64

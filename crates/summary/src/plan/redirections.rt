@@ -6,7 +6,7 @@ ghost use Rattle.summary.specs.NewAddresses.{prefix_end, new_address};
 ghost use Rattle.summary.specs.Compaction.{redirected};
 ghost use Rattle.summary.specs.Redirections.{counted_below};
 
-use crate::plan::ranks::Ranks;
+use crate::plan::ranks::{RankSlices, Ranks};
 use heap_image::{Bits, Image};
 use mark_bitmap::Marks;
 use std::alloc::{AllocError, Global};
@@ -79,9 +79,7 @@ impl Redirections {
         requires { Contains self.now.live a }
         ensures { result ≡ new_address self.now a }
     {
-        // The image is valid by what they keep.
-        let _image = &self.image;
-        self.rank(a + 1) - 1
+        self.as_slices().new_address(a)
     }
 
     /// The reference to the same object after the collection; null stays null.
@@ -90,8 +88,7 @@ impl Redirections {
         requires { IsTrue (is_null_or_live self.now reference) }
         ensures { result ≡ redirected self.now reference }
     {
-        let _image = &self.image;
-        self.rank(reference)
+        self.as_slices().redirected(reference)
     }
 
     /// Redirects each reference in place.
@@ -99,9 +96,66 @@ impl Redirections {
         requires { All (λ w. IsTrue (is_null_or_live self.now w)) references.old }
         ensures { references.new ≡ map (redirected self.now) references.old }
     {
+        let redirections = self.as_slices();
         for reference in references.iter_mut() {
-            *reference = self.redirected(*reference);
+            *reference = redirections.redirected(*reference);
         }
+    }
+
+    /// The same redirections, borrowed.
+    #[inline]
+    fn as_slices(&self) -> RedirectionSlices<'_>
+        ensures { result ≡ self.now }
+    {
+        RedirectionSlices {
+            image: &self.image,
+            live: self.live.words(),
+            ranks: self.ranks.as_slices(),
+        }
+    }
+}
+
+/// Borrowed [`Redirections`]: who redirects many references looks the lists up once, not for each of them.
+///
+/// A contract sees the image that the redirections were made of.
+#[derive(Drop)]
+struct RedirectionSlices<'a> {
+    image: &'a Snapshot<Image>,
+    live: &'a [u64],
+    ranks: RankSlices<'a>,
+}
+
+impl<'a> Model for RedirectionSlices<'a> {
+    ghost use Rattle.object_heap.specs.HeapImage.{HeapImage};
+    ghost use Rattle.summary.specs.Redirections.{AreRedirections};
+
+    ghost Value = { HeapImage };
+
+    ghost view = { λ r. r.image.now.value };
+
+    ghost invariant = { λ r. AreRedirections r.image.now.value r.live.now r.ranks };
+}
+
+impl RedirectionSlices<'_> {
+    /// The new address of the live object at `a`.
+    #[inline]
+    fn new_address(&self, a: u64) -> u64
+        requires { Contains self.now.live a }
+        ensures { result ≡ new_address self.now a }
+    {
+        // The image is valid by what they keep.
+        let _image = self.image;
+        self.rank(a + 1) - 1
+    }
+
+    /// The reference to the same object after the collection; null stays null.
+    #[inline]
+    fn redirected(&self, reference: u64) -> u64
+        requires { IsTrue (is_null_or_live self.now reference) }
+        ensures { result ≡ redirected self.now reference }
+    {
+        let _image = self.image;
+        self.rank(reference)
     }
 
     /// The new value of a reference.
@@ -112,7 +166,7 @@ impl Redirections {
         ensures { result ≡ counted_below self.now reference }
     {
         let i = (reference / 64) as usize;
-        let below = self.live.word(i) & ((1 << (reference % 64)) - 1);
+        let below = self.live[i] & ((1 << (reference % 64)) - 1);
         let count = self.ranks.get(i) + u64::from(below.count_ones());
         reference.min(count)
     }

@@ -8,36 +8,36 @@ ghost use Rattle.summary.specs.RegionData.{region_data, source};
 ghost use Rattle.summary.specs.Layout.{placed_region};
 ghost use Rattle.summary.specs.Sources.{StartsOnly, told_region};
 
-use crate::region_data::RegionData;
+use crate::region_row::RegionRow;
 use heap_image::Image;
 
 /// Sets the source of each region in a table that is complete but for the sources.
-pub fn set_sources(image: &Image, prefix: u64, regions: &mut [RegionData])
+pub fn set_sources(image: &Image, prefix: u64, regions: &mut [RegionRow])
     requires prefix { prefix ≡ prefix_end image.now }
     requires regions { regions.old ≡ map (placed_region image.now) (range_with_len 0 (region_count image.now)) }
     ensures { regions.new ≡ map (region_data image.now) (range_with_len 0 (region_count image.now)) }
 {
     for s in 0..image.regions() {
         if let Some(d) = started_by(image, prefix, s, &regions[s as usize]) {
-            regions[d as usize].source = Some(s);
+            regions[d as usize].set_source(s);
         }
     }
 }
 
 /// The region to whose start a word of region `s` goes, if `s` lies after the dense prefix.
-fn started_by(image: &Image, prefix: u64, s: u32, region: &RegionData) -> Option<u64>
+fn started_by(image: &Image, prefix: u64, s: u32, region: &RegionRow) -> Option<u64>
     requires prefix { prefix ≡ prefix_end image.now }
     requires inside { s < region_count image.now }
     requires region { told_region image.now s s ≡ region.now }
     ensures { MatchOption result ((d : ℕ) → source image.now d ≢ Some s) (StartsOnly image.now s) }
 {
     let region_words = image.region_words();
-    let words = u64::from(region.partial) + u64::from(region.live);
-    if region.destination < prefix {
+    let destination = region.destination();
+    if destination < prefix {
         return None;
     }
-    let d = region.destination.div_ceil(region_words);
-    if d * region_words < region.destination + words {
+    let d = destination.div_ceil(region_words);
+    if d * region_words < destination + region.words() {
         Some(d)
     } else {
         None

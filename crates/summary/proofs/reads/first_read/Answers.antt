@@ -21,13 +21,13 @@ returns-then-from-region_words c =
 pub returns-in-Some : goal.returns-in-Some
 returns-in-Some c =
     let image = c.args.table.now in
-    let is = ap (λ (k : RegionData). k.source) (region_at image c.regions-regions.result.now c.regions-regions.ensures.data c.args.d c.args.d _ (there c.args.table.now c.regions-regions.result.now c.args.d c.regions-regions.ensures.number c.if-d-regions.false) refl) in
+    let is = c.source.ensures ∙ ap (λ (k : RegionData). k.source) (c.index-regions-d.is ∙ region_at image c.regions-regions.result.now c.regions-regions.ensures.data c.args.d c.args.d _ (there c.args.table.now c.regions-regions.result.now c.args.d c.regions-regions.ensures.number c.if-d-regions.false) refl) in
     begin_at_source image c.prefix_end.ensures.valid c.args.d c.in-Some.source (sym is ∙ c.in-Some.is)
 
 pub returns-in-None : goal.returns-in-None
 returns-in-None c =
     let image = c.args.table.now in
-    let is = ap (λ (k : RegionData). k.source) (region_at image c.regions-regions.result.now c.regions-regions.ensures.data c.args.d c.args.d _ (there c.args.table.now c.regions-regions.result.now c.args.d c.regions-regions.ensures.number c.if-d-regions.false) refl) in
+    let is = c.source.ensures ∙ ap (λ (k : RegionData). k.source) (c.index-regions-d.is ∙ region_at image c.regions-regions.result.now c.regions-regions.ensures.data c.args.d c.args.d _ (there c.args.table.now c.regions-regions.result.now c.args.d c.regions-regions.ensures.number c.if-d-regions.false) refl) in
     let start : c.from.result * c.region_words.result ≡ start_of image c.args.d = ap (λ n. n * c.region_words.result) c.from.ensures ∙ ap (λ n. c.args.d * n) c.region_words.ensures.value in
     let prefix = c.prefix_end.ensures.value in
     let high = c.if-from-region_words.false in

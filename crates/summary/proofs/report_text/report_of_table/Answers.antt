@@ -1,8 +1,7 @@
-use Rattle.std.proofs.Common.{◌∙◌, ap, List, ℕ, ◌++◌, get_or, refl, arith}
+use Rattle.std.proofs.Common.{◌∙◌, ap, List, ℕ, ◌++◌, refl, arith}
 use Rattle.std.specs.Prelude.{flat_map}
 use Rattle.std.specs.List.{range_with_len}
 use Rattle.summary.specs.RegionData.{region_data}
-use Rattle.summary.specs.Reads.{no_data}
 use Rattle.summary.specs.declared.region_data.RegionData.{RegionData}
 use Rattle.summary.specs.Report.{row_of}
 use Rattle.summary.proofs.Lemmas.Regions.{region_at}
@@ -16,8 +15,8 @@ loop-r-preserved c =
     let lines = λ (k : ℕ). row_of k (region_data image k) in
     let number = c.regions-region-items.ensures.number in
     let below = c.loop-r-test.true in
-    let region = region_at image c.regions-region-items.result.now c.regions-region-items.ensures.data r r no_data (omega arith) refl in
+    let region = region_at image c.regions-region-items.result.now c.regions-region-items.ensures.data r r _ (omega arith) refl in
     c.in_ok-write_line.ensures
-    ∙ ap (λ (text : List ℕ). text ++ row_of r (get_or c.regions-region-items.result.now r no_data)) c.loop-r.invariant
-    ∙ ap (λ (region : RegionData). flat_map lines (range_with_len 0 r) ++ row_of r region) region
+    ∙ ap (λ (text : List ℕ). text ++ row_of r c.to_data.result) c.loop-r.invariant
+    ∙ ap (λ (region : RegionData). flat_map lines (range_with_len 0 r) ++ row_of r region) (c.to_data.ensures ∙ c.region-item.is ∙ region)
     ∙ flat_map-more lines r

@@ -8,4 +8,4 @@ pub returns : goal.returns
 returns c =
     let image = c.self.inside.table in
     let inside = subst (λ i. c.args.r < region_count i) (sym c.self.view_is) c.requires in
-    region_at image c.regions.result.now c.regions.ensures.data c.args.r c.args.r _ inside refl ∙ ap (λ i. region_data i c.args.r) c.self.view_is
+    c.to_data.ensures ∙ c.index-regions-r.is ∙ region_at image c.regions.result.now c.regions.ensures.data c.args.r c.args.r _ inside refl ∙ ap (λ i. region_data i c.args.r) c.self.view_is

@@ -1,5 +1,5 @@
-use Rattle.std.proofs.Common.{◌≡◌, ap, arith}
-use Rattle.std.specs.Prelude.{Some, None}
+use Rattle.std.proofs.Common.{◌≡◌, ◌∙◌, ap, arith}
+use Rattle.std.specs.Prelude.{Some}
 use Rattle.object_heap.specs.HeapImage.{region_count}
 use Rattle.summary.specs.declared.region_data.RegionData.{RegionData}
 use Rattle.summary.proofs.Lemmas.Telling.{told_first, told_none, told_one, told_last}
@@ -13,11 +13,10 @@ pub loop-s-preserved : goal.loop-s-preserved
 loop-s-preserved c =
     let image = c.args.image.now in
     let valid = c.regions-s-end.ensures.valid in
-    let none : RegionData = record { partial = 0; live = 0; destination = 0; count = 0; source = None } in
     elim c.match-started_by.branch [
       | in-Some w ↦
           let starts = w.in-Some.ensures in
-          rw w.regions-is (told_one image valid c.loop-s.s w.in-Some.d c.loop-s.regions _ starts (ap (λ (k : RegionData). record k { source = Some c.loop-s.s }) (c.loop-s.invariant.1 w.in-Some.d none starts.inside)) c.loop-s.invariant)
+          rw w.regions-is (told_one image valid c.loop-s.s w.in-Some.d c.loop-s.regions _ starts (w.set_source.ensures ∙ ap (λ (k : RegionData). record k { source = Some c.loop-s.s }) (c.loop-s.invariant.1 w.in-Some.d _ starts.inside)) c.loop-s.invariant)
       | in_default w ↦ rw w.regions-is (told_none image valid c.loop-s.s c.loop-s.regions w.in_default.ensures c.loop-s.invariant)
     ]
 

@@ -15,7 +15,7 @@ overflow_mul-d c =
     let image = c.args.image.now in
     let n = c.region_words-region_words.ensures in
     let s = c.args.s in
-    let to : c.args.region.now.destination ≡ destination image s = ap (λ (k : RegionData). k.destination) (sym c.requires.region) in
+    let to : c.destination-destination.result ≡ destination image s = c.destination-destination.ensures ∙ ap (λ (k : RegionData). k.destination) (sym c.requires.region) in
     let d : c.div_ceil-d.result ≡ div_ceil (destination image s) (region_words image) =
     c.div_ceil-d.ensures ∙ ap (λ m. div_ceil m c.region_words-region_words.result) to ∙ ap (div_ceil (destination image s)) n.value in
     let product : c.div_ceil-d.result * c.region_words-region_words.result ≡ div_ceil (destination image s) (region_words image) * region_words image =
@@ -27,14 +27,13 @@ overflow_mul-d c =
     let same = n.value in
     omega arith
 
-pub overflow_add-region : goal.overflow_add-region
-overflow_add-region c =
+pub overflow_add-destination : goal.overflow_add-destination
+overflow_add-destination c =
     let image = c.args.image.now in
     let n = c.region_words-region_words.ensures in
     let s = c.args.s in
-    let to : c.args.region.now.destination ≡ destination image s = ap (λ (k : RegionData). k.destination) (sym c.requires.region) in
-    let words : c.from.result + c.from-2.result ≡ data_words image s =
-    ap (λ m. m + c.from-2.result) c.from.ensures ∙ ap (λ m. c.args.region.now.partial + m) c.from-2.ensures ∙ ap (λ (k : RegionData). k.partial + k.live) (sym c.requires.region) in
+    let to : c.destination-destination.result ≡ destination image s = c.destination-destination.ensures ∙ ap (λ (k : RegionData). k.destination) (sym c.requires.region) in
+    let words : c.words.result ≡ data_words image s = c.words.ensures ∙ ap (λ (k : RegionData). k.partial + k.live) (sym c.requires.region) in
     let low = destination-le image n.valid s c.requires.inside in
     let few_data = data-le image n.valid s in
     let few = n.valid.limits.few_words in
@@ -42,14 +41,14 @@ overflow_add-region c =
     let same = n.value in
     omega arith
 
-pub returns-then-region-prefix : goal.returns-then-region-prefix
-returns-then-region-prefix c =
+pub returns-then-destination-prefix : goal.returns-then-destination-prefix
+returns-then-destination-prefix c =
     let image = c.args.image.now in
     let n = c.region_words-region_words.ensures in
     let s = c.args.s in
-    let to : c.args.region.now.destination ≡ destination image s = ap (λ (k : RegionData). k.destination) (sym c.requires.region) in
+    let to : c.destination-destination.result ≡ destination image s = c.destination-destination.ensures ∙ ap (λ (k : RegionData). k.destination) (sym c.requires.region) in
     let prefix = c.requires.prefix in
-    let below = c.if-region-prefix.true in
+    let below = c.if-destination-prefix.true in
     λ d. starts-none image n.valid s d (λ above _. let no : ⊥ = omega arith in no)
 
 pub returns-then-d-region_words : goal.returns-then-d-region_words
@@ -57,15 +56,14 @@ returns-then-d-region_words c =
     let image = c.args.image.now in
     let n = c.region_words-region_words.ensures in
     let s = c.args.s in
-    let to : c.args.region.now.destination ≡ destination image s = ap (λ (k : RegionData). k.destination) (sym c.requires.region) in
-    let words : c.from.result + c.from-2.result ≡ data_words image s =
-    ap (λ m. m + c.from-2.result) c.from.ensures ∙ ap (λ m. c.args.region.now.partial + m) c.from-2.ensures ∙ ap (λ (k : RegionData). k.partial + k.live) (sym c.requires.region) in
+    let to : c.destination-destination.result ≡ destination image s = c.destination-destination.ensures ∙ ap (λ (k : RegionData). k.destination) (sym c.requires.region) in
+    let words : c.words.result ≡ data_words image s = c.words.ensures ∙ ap (λ (k : RegionData). k.partial + k.live) (sym c.requires.region) in
     let d : c.div_ceil-d.result ≡ div_ceil (destination image s) (region_words image) =
     c.div_ceil-d.ensures ∙ ap (λ m. div_ceil m c.region_words-region_words.result) to ∙ ap (div_ceil (destination image s)) n.value in
     let product : c.div_ceil-d.result * c.region_words-region_words.result ≡ div_ceil (destination image s) (region_words image) * region_words image =
     ap (λ m. m * c.region_words-region_words.result) d ∙ ap (λ m. div_ceil (destination image s) (region_words image) * m) n.value in
     let prefix = c.requires.prefix in
-    let above = c.if-region-prefix.false in
+    let above = c.if-destination-prefix.false in
     let below = c.if-d-region_words.true in
     subst (StartsOnly image s) (sym d) (starts-only image n.valid s c.requires.inside (omega arith) (omega arith))
 
@@ -74,9 +72,8 @@ returns-else-d-region_words c =
     let image = c.args.image.now in
     let n = c.region_words-region_words.ensures in
     let s = c.args.s in
-    let to : c.args.region.now.destination ≡ destination image s = ap (λ (k : RegionData). k.destination) (sym c.requires.region) in
-    let words : c.from.result + c.from-2.result ≡ data_words image s =
-    ap (λ m. m + c.from-2.result) c.from.ensures ∙ ap (λ m. c.args.region.now.partial + m) c.from-2.ensures ∙ ap (λ (k : RegionData). k.partial + k.live) (sym c.requires.region) in
+    let to : c.destination-destination.result ≡ destination image s = c.destination-destination.ensures ∙ ap (λ (k : RegionData). k.destination) (sym c.requires.region) in
+    let words : c.words.result ≡ data_words image s = c.words.ensures ∙ ap (λ (k : RegionData). k.partial + k.live) (sym c.requires.region) in
     let d : c.div_ceil-d.result ≡ div_ceil (destination image s) (region_words image) =
     c.div_ceil-d.ensures ∙ ap (λ m. div_ceil m c.region_words-region_words.result) to ∙ ap (div_ceil (destination image s)) n.value in
     let product : c.div_ceil-d.result * c.region_words-region_words.result ≡ div_ceil (destination image s) (region_words image) * region_words image =

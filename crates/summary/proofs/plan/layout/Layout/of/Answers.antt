@@ -68,8 +68,8 @@ loop-r-preserved c =
     let next_start : start_of image (r + 1) ≡ start_of image r + region_words image = omega arith in
     let items =
     c.in_ok-push.ensures.items
-    ∙ ap (λ rs. rs ++ c.placed-region.result ∷ []) c.loop-r.invariant.0
-    ∙ ap (λ (k : RegionData). map (placed_region image) (range_with_len 0 r) ++ k ∷ []) c.placed-region.ensures
+    ∙ ap (λ rs. rs ++ c.without_source.result ∷ []) c.loop-r.invariant.0
+    ∙ ap (λ (k : RegionData). map (placed_region image) (range_with_len 0 r) ++ k ∷ []) (c.without_source.ensures ∙ c.placed-region.ensures)
     ∙ sym (map-range_with_len_more (placed_region image) 0 r r (zero-add r)) in
     elim c.if-region-prefix.branch [
       | then-region-prefix w ↦

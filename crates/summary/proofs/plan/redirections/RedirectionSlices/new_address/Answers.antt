@@ -1,7 +1,7 @@
 use Rattle.std.proofs.Common.{◌≡◌, ◌+◌, ◌-◌, ◌∙◌, ap, subst, arith}
 use Rattle.object_heap.specs.HeapImage.{IsValid, is_live_word}
 use Rattle.summary.proofs.Lemmas.Ranks.{listed-live, live_in_heap, object-counted}
-use Rattle.summary.proofs.plan.redirections.Redirections.new_address.Goals as goal
+use Rattle.summary.proofs.plan.redirections.RedirectionSlices.new_address.Goals as goal
 
 pub overflow_add-a : goal.overflow_add-a
 overflow_add-a c =

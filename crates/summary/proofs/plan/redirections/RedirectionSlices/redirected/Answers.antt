@@ -1,7 +1,7 @@
 use Rattle.std.proofs.Common.{sym, ◌∙◌, subst}
 use Rattle.object_heap.specs.HeapImage.{IsValid}
 use Rattle.summary.proofs.Lemmas.Ranks.{reference-inside, reference-live, redirected-counted}
-use Rattle.summary.proofs.plan.redirections.Redirections.redirected.Goals as goal
+use Rattle.summary.proofs.plan.redirections.RedirectionSlices.redirected.Goals as goal
 
 pub rank-requires-clause-inside : goal.rank-requires-clause-inside
 rank-requires-clause-inside c =

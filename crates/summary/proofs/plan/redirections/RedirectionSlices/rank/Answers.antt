@@ -1,5 +1,4 @@
 use Rattle.std.proofs.Common.{◌≡◌, ℕ, ◌+◌, ◌-◌, ◌*◌, ◌/◌, ◌%◌, ◌≤◌, ◌<◌, true, List, length, get_or, sym, ◌∙◌, ap, subst, arith}
-use Rattle.std.specs.Arc.{arc_value}
 use Rattle.std.proofs.lemmas.List.FromFn.{length-map-range_with_len, get_or-map-range_with_len}
 use Rattle.object_heap.specs.HeapImage.{HeapImage, heap_words, is_live_word, live_words}
 use Rattle.mark_bitmap.specs.Marks.{bit_words}
@@ -7,12 +6,12 @@ use Rattle.summary.specs.Redirections.{AreBits, AreRedirections, counted_below, 
 use Rattle.summary.proofs.Lemmas.Ranks.{bits-of, least-counted, live-within}
 use Rattle.summary.proofs.Lemmas.Addresses.{prefix_end-le}
 use Rattle.summary.proofs.Lemmas.Words.{live_words-le}
-use Rattle.summary.proofs.plan.redirections.Redirections.rank.Goals as goal
-use Rattle.summary.proofs.plan.redirections.Redirections.rank.Goals.{After-from}
+use Rattle.summary.proofs.plan.redirections.RedirectionSlices.rank.Goals as goal
+use Rattle.summary.proofs.plan.redirections.RedirectionSlices.rank.Goals.{After-from}
 
 pub get-requires : goal.get-requires
 get-requires c =
-    let image : HeapImage = c.self.inside.image.value in
+    let image : HeapImage = c.self.inside.image.now.value in
     let inside : c.args.reference ≤ heap_words image = subst (λ m. c.args.reference ≤ heap_words m) (sym c.self.view_is) c.requires.inside in
     let long = ap length c.self.invariant.ranks_are ∙ length-map-range_with_len (λ k. first_rank image + live_words image 0 (64 * k)) 0 (bit_words image) in
     omega arith
@@ -24,16 +23,16 @@ rank_at image live ranks i found are inside is =
     is ∙ ap (λ l. get_or l i 0) are.ranks_are ∙ get_or-map-range_with_len (λ k. first_rank image + live_words image 0 (64 * k)) 0 (bit_words image) i i 0 inside (omega arith)
 
 -- the live words below an address, counted on from the first rank
-counted : (c : After-from) → c.get.result + c.from.result ≡ first_rank c.self.inside.image.value + live_words c.self.inside.image.value 0 c.args.reference
+counted : (c : After-from) → c.get.result + c.from.result ≡ first_rank c.self.inside.image.now.value + live_words c.self.inside.image.now.value 0 c.args.reference
 counted c =
-    let image : HeapImage = c.self.inside.image.value in
+    let image : HeapImage = c.self.inside.image.now.value in
     let a : ℕ = c.args.reference in
     let i : ℕ = a / 64 in
     let inside : c.args.reference ≤ heap_words image = subst (λ m. c.args.reference ≤ heap_words m) (sym c.self.view_is) c.requires.inside in
-    let word : c.word.result ≡ get_or (arc_value c.self.inside.live) i 0 = c.word.ensures ∙ ap (λ l. get_or l i 0) c.deref.ensures in
-    let are : AreBits (is_live_word image) (64 * i) c.word.result = subst (AreBits (is_live_word image) (64 * i)) (sym word) (bits-of image (arc_value c.self.inside.live) c.self.invariant.are_live i) in
-    let rank = rank_at image (arc_value c.self.inside.live) c.self.inside.ranks i c.get.result c.self.invariant (omega arith) c.get.ensures in
-    let within = live-within image i (a % 64) c.word.result are (omega arith) in
+    let word : ℕ = get_or c.self.inside.live.now i 0 in
+    let are : AreBits (is_live_word image) (64 * i) word = bits-of image c.self.inside.live.now c.self.invariant.are_live i in
+    let rank = rank_at image c.self.inside.live.now c.self.inside.ranks i c.get.result c.self.invariant (omega arith) c.get.ensures in
+    let within = live-within image i (a % 64) word are (omega arith) in
     let at : 64 * i + a % 64 ≡ a = omega arith in
     let ones = c.from.ensures in
     let all = ap (live_words image 0) at in
@@ -41,7 +40,7 @@ counted c =
 
 pub overflow_add-count : goal.overflow_add-count
 overflow_add-count c =
-    let image : HeapImage = c.self.inside.image.value in
+    let image : HeapImage = c.self.inside.image.now.value in
     let inside : c.args.reference ≤ heap_words image = subst (λ m. c.args.reference ≤ heap_words m) (sym c.self.view_is) c.requires.inside in
     let count = counted ((goal.at.overflow_add-count c).After-from) in
     let few = live_words-le image 0 c.args.reference in
@@ -51,7 +50,7 @@ overflow_add-count c =
 
 pub returns : goal.returns
 returns c =
-    let image : HeapImage = c.self.inside.image.value in
+    let image : HeapImage = c.self.inside.image.now.value in
     let count = counted ((goal.at.returns c).After-from) in
     let live : 0 < c.args.reference → is_live_word image (c.args.reference - 1) ≡ true
     = λ some. ap (λ m. is_live_word m (c.args.reference - 1)) c.self.view_is ∙ c.requires.live some in
