@@ -16,7 +16,6 @@ use std::sync::Wait;
 use std::test::Fail;
 use std::thread::Threads;
 use summary::Plan;
-use summary::laws::compaction::blocks_of_regions;
 
 /// The cells and the plan of the base heap with these live objects.
 pub fn base_cells<T: Threads + Sync>(
@@ -153,72 +152,29 @@ fn a_region_is_read_by_many_or_written_by_one(rt: HostRuntime) -> Result<(), Fai
     Ok(())
 }
 
-/// Puts region 3 back. It lies above the new top, so its moved words are its original ones.
-fn put_back<W: Wait>(cells: &Cells, plan: &Plan, alloc: Global, wait: &W) -> Result<u32, Fail>
-    requires same { plan.now ≡ cells.now }
-    requires regions { region_count cells.now ≡ 4 }
-    requires region_log { cells.now.region_log ≡ 3 }
-{
-    blocks_of_regions();
-    if plan.new_top() > 24 {
-        return Err(Fail::from("region 3 is to be filled"));
-    }
-    let target = cells.write(right(alloc, 3)?, wait)?;
-    let (written, placed) = target.put();
-    written.give_up();
-    Ok(placed.region())
-}
-
-/// The region that was put back, and the faults of a read and a write of it afterwards.
-fn put_back_and_faults<W: Wait>(
-    cells: &Cells,
-    plan: &Plan,
-    alloc: Global,
-    wait: &W,
-) -> Result<(u32, [Option<Fault>; 2]), Fail>
-    requires same { plan.now ≡ cells.now }
-    requires regions { region_count cells.now ≡ 4 }
-    requires region_log { cells.now.region_log ≡ 3 }
-{
-    let region = put_back(cells, plan, alloc, wait)?;
-    Ok((region, read_and_write_faults(cells, alloc, 3, wait)?))
-}
-
-/// The same in the base heap, and the fault with which the cells end.
-fn put_back_in_base<R: Threads + Wait + Sync>(
+/// The faults of a read and a write of region 3, which is not to be filled, and the fault with which the cells end.
+fn faults_of_another_region<R: Threads + Wait + Sync>(
     alloc: Global,
     live: &[u64],
     rt: &R,
-) -> Result<(u32, [Option<Fault>; 2], Option<Fault>), Fail> {
-    let (cells, plan) = base_cells(alloc, live, rt)?;
-    let (region, faults) = put_back_and_faults(&cells, &plan, alloc, rt)?;
-    Ok((region, faults, end_fault(cells)))
+) -> Result<([Option<Fault>; 2], Option<Fault>), Fail> {
+    let (cells, _plan) = base_cells(alloc, live, rt)?;
+    let faults = read_and_write_faults(&cells, alloc, 3, rt)?;
+    Ok((faults, end_fault(cells)))
 }
 
 #[test]
-fn a_region_that_is_put_back_has_moved(rt: HostRuntime) -> Result<(), Fail> {
+fn a_region_that_is_not_to_be_filled_is_only_read(rt: HostRuntime) -> Result<(), Fail> {
+    let faults = [None, Some(Fault::Overwritten(3))];
     equal(
         &rt,
-        put_back_in_base(rt.alloc(), BASE_LIVE.as_slice(), &rt)?,
-        (
-            3,
-            [Some(Fault::Overwritten(3)); 2],
-            Some(Fault::Overwritten(0)),
-        ),
+        faults_of_another_region(rt.alloc(), BASE_LIVE.as_slice(), &rt)?,
+        (faults, Some(Fault::Overwritten(0))),
     );
-    Ok(())
-}
-
-#[test]
-fn cells_do_not_end_if_another_region_is_put_back(rt: HostRuntime) -> Result<(), Fail> {
     equal(
         &rt,
-        put_back_in_base(rt.alloc(), [].as_slice(), &rt)?,
-        (
-            3,
-            [Some(Fault::Overwritten(3)); 2],
-            Some(Fault::Overwritten(3)),
-        ),
+        faults_of_another_region(rt.alloc(), [].as_slice(), &rt)?,
+        (faults, None),
     );
     Ok(())
 }
@@ -227,27 +183,6 @@ fn cells_do_not_end_if_another_region_is_put_back(rt: HostRuntime) -> Result<(),
 fn cells_do_not_end_if_nothing_is_filled(rt: HostRuntime) -> Result<(), Fail> {
     let (cells, _plan) = base_cells(rt.alloc(), BASE_LIVE.as_slice(), &rt)?;
     equal(&rt, end_fault(cells), Some(Fault::Overwritten(0)));
-    Ok(())
-}
-
-/// The fault of a write of region 2 that is given up in a heap without live objects, and the fault with which the cells
-/// end.
-fn faults_of_a_dead_region<R: Threads + Wait + Sync>(
-    alloc: Global,
-    rt: &R,
-) -> Result<(Option<Fault>, Option<Fault>), Fail> {
-    let (cells, _plan) = base_cells(alloc, [].as_slice(), rt)?;
-    let fault = write_fault(&cells, alloc, 2, rt)?;
-    Ok((fault, end_fault(cells)))
-}
-
-#[test]
-fn cells_do_not_end_if_another_region_is_given_up(rt: HostRuntime) -> Result<(), Fail> {
-    equal(
-        &rt,
-        faults_of_a_dead_region(rt.alloc(), &rt)?,
-        (None, Some(Fault::Overwritten(2))),
-    );
     Ok(())
 }
 

@@ -185,11 +185,11 @@ fn a_region_that_was_filled_cannot_be_opened(rt: HostRuntime) -> Result<(), Fail
 }
 
 #[test]
-fn cells_do_not_end_if_the_last_region_is_given_up(rt: HostRuntime) -> Result<(), Fail> {
+fn cells_end_although_another_region_was_opened(rt: HostRuntime) -> Result<(), Fail> {
     equal(
         &rt,
         fill_base(3, 3, &rt)?,
-        ((true, [None; 2]), Some(Fault::Overwritten(3))),
+        ((true, [None, Some(Fault::Overwritten(3))]), None),
     );
     Ok(())
 }

@@ -1,14 +1,14 @@
 //! The regions of a heap while many workers compact it: each may be read by many at the same time, or written by one.
 //!
-//! [`Cells::of`] moves each region of an image into a cell. [`Cells::read`] opens one for reading, as a [`Source`],
-//! with an opening from the board; [`Cells::write`] takes one out for writing, as a [`Target`], with a right from the
-//! board. [`Cells::into_regions`] returns the regions once those to be filled have moved, and [`Cells::into_image`] the
-//! image while none has.
+//! [`Cells::of`] moves each region to fill into a cell; no one writes the others, which stay as they are.
+//! [`Cells::read`] opens a region for reading, as a [`Source`], with an opening from the board; [`Cells::write`] takes
+//! one out of its cell for writing, as a [`Target`], with a right from the board. [`Cells::into_regions`] returns the
+//! regions once those to be filled have moved, and [`Cells::into_image`] the image while none has.
 //!
 //! A cell holds its region in its original state, moved, or spoiled. Only an original region can be read. Only
 //! [`Target::put`] makes one moved, and it requires the moved words. No one sees the words of a spoiled region. No call
 //! waits for a reader or a writer to finish: a call at the wrong time returns fault 15 and gives up its opening or
-//! right.
+//! right. So does a write of a region that is not to be filled.
 //!
 //! # What a contract sees
 //!

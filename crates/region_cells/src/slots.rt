@@ -1,7 +1,7 @@
 //! The state word of a cell's slot, which says who may have its region.
-ghost use Rattle.std.specs.Prelude.{◌≡◌, ◌+◌, ◌%◌, ◌<◌, ◌≤◌, ◌↔◌, IsTrue, IfSome, if◌then◌else◌};
+ghost use Rattle.std.specs.Prelude.{◌≡◌, ◌+◌, ◌%◌, ◌<◌, ◌≤◌, ◌↔◌, IsTrue, IfSome};
 ghost use Rattle.object_heap.specs.HeapImage.{block_of};
-ghost use Rattle.region_cells.specs.Blocks.{moved_block};
+ghost use Rattle.region_cells.specs.Blocks.{final_block};
 
 use crate::kept::Kept;
 use counted_slot::{Claim, Counted, FREE, ONE_READER, PRESENT, TAKEN};
@@ -67,7 +67,7 @@ pub(crate) fn lock_for_write<'a, P: RetryPolicy>(
 
 /// The region of a slot at the end: moved if `has_moved`, else original. None if the slot is in another state.
 pub(crate) fn final_region(slot: Counted<Kept>, has_moved: bool) -> Option<Region>
-    ensures { IfSome result (λ words. words ≡ (if has_moved then moved_block slot.image slot.region else block_of slot.image slot.region)) }
+    ensures { IfSome result (λ words. words ≡ final_block has_moved slot) }
 {
     match slot.into_inner() {
         Kept::Moved(region) if has_moved => Some(region),

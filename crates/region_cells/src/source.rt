@@ -4,6 +4,7 @@ ghost use Rattle.image_streams.specs.declared.fault.Fault.TheVariants.{Overwritt
 ghost use Rattle.raw_region.specs.Region.{with_words, part};
 ghost use Rattle.region_cells.specs.Views.{source_words};
 
+use crate::cells::Cells;
 use crate::kept::Kept;
 use crate::target::Target;
 use claim_board::{Closed, Opening};
@@ -11,6 +12,15 @@ use counted_slot::Claim;
 use heap_image::Fault;
 use raw_region::Region;
 use std::marker::Model;
+use std::snapshot::Snapshot;
+
+/// How a source has its region.
+pub(crate) enum Hold<'a> {
+    /// In its cell, which counts the source as a reader.
+    Cell(Claim<'a, Kept>),
+    /// As it lies, since no one writes it.
+    Plain(&'a Region),
+}
 
 /// A region that is open for reading, with its original words. Several sources of one region may be open at the same
 /// time; no one writes it meanwhile.
@@ -20,7 +30,8 @@ use std::marker::Model;
 ///
 /// Contracts view it as the image and the opening.
 pub struct Source<'a> {
-    hand: Claim<'a, Kept>,
+    hold: Hold<'a>,
+    cells: Snapshot<Cells>,
     opening: Opening,
 }
 
@@ -30,24 +41,29 @@ impl<'a> Model for Source<'a> {
 
     ghost Value = { Reading };
 
-    ghost view = { λ s. record { image = s.hand.tag.image; opening = s.opening } };
+    ghost view = { λ s. record { image = s.cells.value; opening = s.opening } };
 
-    ghost invariant = { λ s. IsReading s.hand.tag s.hand.right s.hand.value s.opening.source };
+    ghost invariant = { λ s. IsReading s.cells.value s.opening.source s.hold };
 }
 
 impl<'a> Source<'a> {
     /// Makes a source from a reader's claim. Returns fault 15, and gives the opening up, unless the region is original.
-    pub(crate) fn new(claim: Claim<'a, Kept>, opening: Opening) -> Result<Source<'a>, Fault>
-        requires valid { IsValid claim.tag.image }
-        requires inside { opening.source < region_count claim.tag.image }
+    pub(crate) fn new(
+        claim: Claim<'a, Kept>,
+        cells: Snapshot<Cells>,
+        opening: Opening,
+    ) -> Result<Source<'a>, Fault>
+        requires valid { IsValid cells.value }
+        requires inside { opening.source < region_count cells.value }
         requires right { claim.right ≡ 1 }
-        requires region { claim.tag.region ≡ opening.source }
-        ensures source { IfOk result (λ source. source ≡ record { image = claim.entry.tag.image; opening = opening }) }
+        requires place { claim.tag ≡ record { image = cells.value; region = opening.source } }
+        ensures source { IfOk result (λ source. source ≡ record { image = cells.value; opening = opening }) }
         ensures fault { IfErr result (λ fault. fault ≡ Overwritten opening.source) }
     {
         if matches!(claim.get(), Kept::Original(_)) {
             return Ok(Source {
-                hand: claim,
+                hold: Hold::Cell(claim),
+                cells,
                 opening,
             });
         }
@@ -57,13 +73,34 @@ impl<'a> Source<'a> {
         Err(Fault::Overwritten(region))
     }
 
+    /// Makes a source of a region that no one writes.
+    pub(crate) fn of_plain(
+        region: &'a Region,
+        cells: Snapshot<Cells>,
+        opening: Opening,
+    ) -> Source<'a>
+        requires valid { IsValid cells.value }
+        requires inside { opening.source < region_count cells.value }
+        requires words { region.now ≡ block_of cells.value opening.source }
+        ensures { result ≡ record { image = cells.value; opening = opening } }
+    {
+        Source {
+            hold: Hold::Plain(region),
+            cells,
+            opening,
+        }
+    }
+
     fn region(&self) -> &Region
         ensures words { result.now ≡ source_words self.now }
         ensures length { length result.now ≡ region_words self.now.image }
     {
-        match self.hand.get() {
-            Kept::Original(region) => region,
-            _ => unreachable!(),
+        match &self.hold {
+            Hold::Cell(claim) => match claim.get() {
+                Kept::Original(region) => region,
+                _ => unreachable!(),
+            },
+            Hold::Plain(region) => region,
         }
     }
 
@@ -92,8 +129,17 @@ impl<'a> Source<'a> {
         ensures source { result.source ≡ self.entry.opening.source }
         ensures ticket { result.ticket ≡ self.entry.opening.ticket }
     {
-        let Source { hand, opening } = self;
-        hand.leave();
+        let Source {
+            hold,
+            cells: _,
+            opening,
+        } = self;
+        match hold {
+            Hold::Cell(claim) => {
+                claim.leave();
+            }
+            Hold::Plain(_) => {}
+        }
         opening.close()
     }
 }

@@ -1,35 +1,26 @@
--- The places of cells.
-use Rattle.std.proofs.Common.{◌≡◌, ℕ, zero, suc, ◌/◌, ◌%◌, ◌≤◌, ◌<◌, inl, inr, length, get_or, refl, sym, ◌∙◌, arith}
-use Rattle.std.specs.Prelude.{map}
-use Rattle.std.specs.List.{range_with_len}
-use Rattle.std.proofs.lemmas.Bool.{cases_lt}
-use Rattle.std.proofs.lemmas.Nat.{le-div}
-use Rattle.std.proofs.Math.Nat.{mod-eq_of_lt, one-le-pow}
+-- The places of cells, and the regions after them.
+use Rattle.std.proofs.Common.{◌≡◌, ℕ, ◌+◌, ◌-◌, ◌<◌, List, length, get_or, ◌∙◌, arith}
+use Rattle.std.proofs.lemmas.List.{length-drop, get_or-drop}
 use Rattle.std.proofs.lemmas.List.FromFn.{length-map-range_with_len, get_or-map-range_with_len}
-use Rattle.object_heap.specs.HeapImage.{HeapImage, IsValid, heap_words, region_words, region_count}
-use Rattle.region_cells.specs.Cells.{image_in, place_of, places}
+use Rattle.object_heap.specs.HeapImage.{HeapImage, region_count, block_of}
+use Rattle.summary.specs.RegionData.{fill_count}
+use Rattle.region_cells.specs.Blocks.{blocks_of}
+use Rattle.region_cells.specs.Cells.{place_of, places, other_blocks}
 use Rattle.region_cells.specs.Views.{ImageRegion}
 
-some_multiple : (n r : ℕ) → 0 < n → n % r ≡ 0 → 0 < r → 0 < n / r
-some_multiple n r some whole positive =
-    elim (cases_lt n r) [
-      | inl less ↦ let none : n ≡ 0 = sym (mod-eq_of_lt less) ∙ whole in absurd (omega arith)
-      | inr more ↦ let one : 1 ≤ n / r = le-div 1 n r positive (omega arith) in omega arith
-    ]
-
 module _ (image : HeapImage) where
-  pub length-places : length (places image) ≡ region_count image
-  length-places = length-map-range_with_len (place_of image) 0 (region_count image)
+  pub length-places : length (places image) ≡ fill_count image
+  length-places = length-map-range_with_len (place_of image) 0 (fill_count image)
 
-  pub place-at : (r : ℕ) (d : ImageRegion) → r < region_count image → get_or (places image) r d ≡ place_of image r
-  place-at r d inside = get_or-map-range_with_len (place_of image) 0 (region_count image) r r d inside (omega arith)
+  pub place-at : (r : ℕ) (d : ImageRegion) → r < fill_count image → get_or (places image) r d ≡ place_of image r
+  place-at r d inside = get_or-map-range_with_len (place_of image) 0 (fill_count image) r r d inside (omega arith)
 
-  first : (n : ℕ) → 0 < n → image_in (map (place_of image) (range_with_len 0 n)) ≡ image
-  first zero none = absurd (omega arith)
-  first (suc n) some = refl
+  pub length-others : length (other_blocks image) ≡ region_count image - fill_count image
+  length-others =
+      omega (arith, length-drop (fill_count image) (blocks_of image), length-map-range_with_len (block_of image) 0 (region_count image))
 
-  -- the places of a valid image determine the image
-  pub image_in-places : IsValid image → image_in (places image) ≡ image
-  image_in-places valid =
-      let one : 1 ≤ region_words image = one-le-pow image.region_log 2 (omega arith) in
-      first (region_count image) (some_multiple (heap_words image) (region_words image) valid.limits.not_empty valid.limits.whole_regions (omega arith))
+  -- a region that is not to be filled, by its place in the list of the others
+  pub other-at : (i r : ℕ) (d : List ℕ) → fill_count image + i ≡ r → r < region_count image → get_or (other_blocks image) i d ≡ block_of image r
+  other-at i r d place inside =
+      get_or-drop (fill_count image) (blocks_of image) i d
+      ∙ get_or-map-range_with_len (block_of image) 0 (region_count image) (fill_count image + i) r d (omega (arith, place, inside)) (omega (arith, place))

@@ -11,9 +11,7 @@ use Rattle.std.specs.Prelude.{map, Option}
 use Rattle.std.specs.List.{concat, range_with_len}
 use Rattle.object_heap.specs.HeapImage.{HeapImage, IsValid, AreBlocks, heap_words, region_count, region_words, start_of, block_of, versioned_image_of}
 use Rattle.object_heap.specs.declared.version.Version.{Version}
-
-abbrev pub blocks_of : HeapImage → List (List ℕ)
-blocks_of image = map (block_of image) (range_with_len 0 (region_count image))
+use Rattle.region_cells.specs.Blocks.{blocks_of}
 
 module _ (image : HeapImage) where
   -- the words of the first n regions

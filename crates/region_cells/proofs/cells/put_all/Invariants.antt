@@ -1,4 +1,4 @@
-use Rattle.std.proofs.Common.{◌≡◌, ◌≤◌, length, vec_len}
+use Rattle.std.proofs.Common.{◌≡◌, ◌≤◌, length}
 use Rattle.std.specs.Prelude.{map}
 use Rattle.std.specs.List.{range_with_len}
 use Rattle.std.specs.Vec.{vec_capacity}
@@ -11,4 +11,4 @@ invariant-loop-region l =
     (goal.iterator-loop-region).is_finite l.region-iterator ×
     (l.place ≡ place_of l.fn.first.image (length l.yielded)) ×
     (l.slots.items ≡ map (place_of l.fn.first.image) (range_with_len 0 (length l.yielded))) ×
-    (vec_len l.fn.regions ≤ vec_capacity l.slots)
+    (l.fn.count ≤ vec_capacity l.slots)

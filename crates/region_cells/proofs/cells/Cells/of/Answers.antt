@@ -1,39 +1,41 @@
-use Rattle.std.proofs.Common.{◌≡◌, length, ap, sym, ◌∙◌, arith}
+use Rattle.std.proofs.Common.{◌≤◌, length, ap, sym, subst, ◌∙◌, arith}
 use Rattle.std.proofs.lemmas.List.FromFn.{length-map-range_with_len}
-use Rattle.object_heap.specs.HeapImage.{region_count, block_of}
+use Rattle.object_heap.specs.HeapImage.{IsValid, region_count, block_of}
 use Rattle.summary.specs.RegionData.{fill_count}
-use Rattle.region_cells.specs.Cells.{image_in, places}
-use Rattle.region_cells.proofs.Lemmas.Places.{image_in-places}
+use Rattle.region_cells.specs.Blocks.{blocks_of}
+use Rattle.region_cells.specs.Cells.{places, other_blocks}
 use Rattle.region_cells.proofs.cells.Cells.of.Goals as goal
 
-pub put_all-requires-clause-room : goal.put_all-requires-clause-room
-put_all-requires-clause-room c =
-    let image = c.args.image in
-    omega (arith, c.into_parts-parts.result.regions.ok.0, ap length c.into_parts-parts.ensures.blocks, length-map-range_with_len (block_of image) 0 (region_count image), c.regions-count.ensures.value, c.in-Ok.ensures.capacity)
+pub put_all-requires-clause-valid : goal.put_all-requires-clause-valid
+put_all-requires-clause-valid c = subst IsValid (c.requires.same ∙ sym (ap (λ p. p.image) c.first-first.ensures)) c.planned_image_is_valid.ensures
+
+pub put_all-requires-clause-regions : goal.put_all-requires-clause-regions
+put_all-requires-clause-regions c = c.into_parts-parts.ensures.blocks ∙ ap blocks_of (sym (ap (λ p. p.image) c.first-first.ensures))
+
+pub put_all-requires-clause-count : goal.put_all-requires-clause-count
+put_all-requires-clause-count c = c.fill_regions-count.ensures ∙ ap fill_count (c.requires.same ∙ sym (ap (λ p. p.image) c.first-first.ensures))
+
+pub put_all-requires-clause-few : goal.put_all-requires-clause-few
+put_all-requires-clause-few c =
+    let few : c.fill_regions-count.result ≤ region_count c.args.plan.now =
+    subst (λ n. n ≤ region_count c.args.plan.now) (sym c.fill_regions-count.ensures) (c.regions_to_fill.ensures.few c.args.plan.now c.planned_image_is_valid.ensures) in
+    subst (λ i. c.fill_regions-count.result ≤ region_count i) (c.requires.same ∙ sym (ap (λ p. p.image) c.first-first.ensures)) few
 
 pub invariant_of-result : goal.invariant_of-result
 invariant_of-result c =
     let image = c.args.image in
-    let valid = c.regions-count.ensures.valid in
     let whole = c.into_parts-parts.ensures.whole in
-    let slots_are : c.put_all.new.slots.items ≡ places image = c.put_all.ensures.slots ∙ ap (λ p. places p.image) c.first-first.ensures in
-    let image_is : image_in c.put_all.new.slots.items ≡ image = ap image_in slots_are ∙ image_in-places image valid in
-    rw image_is (record {
-      valid = valid;
-      slots_are = slots_are;
-      fill = c.fill_regions.ensures ∙ ap fill_count c.requires.same;
+    let first = ap (λ p. p.image) c.first-first.ensures in
+    rw c.of-snapshot.ensures (record {
+      valid = subst IsValid c.requires.same c.planned_image_is_valid.ensures;
+      slots_are = c.put_all.ensures.slots ∙ ap places first;
       parts_are = record {
         version = ap (λ i. i.version) (sym whole);
         region_log = ap (λ i. i.region_log) (sym whole);
         allowance = ap (λ i. i.allowance) (sym whole);
         live = ap (λ i. i.live) (sym whole);
         roots = ap (λ i. i.roots) (sym whole);
-        empty = c.put_all.ensures.emptied;
+        regions = c.put_all.ensures.others ∙ ap other_blocks first;
         room = omega (arith, c.put_all.ensures.capacity, c.into_parts-parts.result.regions.ok, ap length c.into_parts-parts.ensures.blocks, length-map-range_with_len (block_of image) 0 (region_count image));
       };
     })
-
-pub returns-clause-cells : goal.returns-clause-cells
-returns-clause-cells c =
-    let image = c.args.image in
-    ap image_in (c.put_all.ensures.slots ∙ ap (λ p. places p.image) c.first-first.ensures) ∙ image_in-places image c.regions-count.ensures.valid

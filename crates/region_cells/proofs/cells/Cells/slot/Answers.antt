@@ -1,25 +1,33 @@
-use Rattle.std.proofs.Common.{◌<◌, length, get_or, sym, ap, subst, ◌∙◌, arith}
-use Rattle.std.proofs.lemmas.List.{get_or_read_under}
-use Rattle.object_heap.specs.HeapImage.{region_count}
-use Rattle.region_cells.specs.Cells.{place_of, image_in}
+use Rattle.std.proofs.Common.{◌≡◌, ℕ, ◌∙◌, ◌≤◌, Option, Some, None, IfSome, IfNone, Bor, ap, subst, arith}
+use Rattle.std.specs.Slice.{IsItemAt}
+use Rattle.object_heap.specs.HeapImage.{HeapImage}
+use Rattle.summary.specs.RegionData.{fill_count}
+use Rattle.region_cells.specs.Cells.{place_of, places}
+use Rattle.region_cells.specs.Views.{ImageRegion}
 use Rattle.region_cells.proofs.Lemmas.Places.{length-places, place-at}
 use Rattle.region_cells.proofs.cells.Cells.slot.Goals as goal
 
-pub index-requires : goal.index-requires
-index-requires c =
-    let s = c.self.inside in
-    let inside = subst (λ image. c.args.region < region_count image) (sym c.self.view_is) c.requires in
-    omega (arith, s.slots.ok.0, ap length c.self.invariant.slots_are, length-places (image_in s.slots.items), inside)
+-- what a look-up among the cells finds
+found : (image : HeapImage) (r : ℕ) (slot : Option (Bor ImageRegion)) → IsItemAt (places image) r slot → IfSome slot (λ s. s.now ≡ place_of image r)
+found image r None at = tt
+found image r (Some slot) at = at.1 ∙ place-at image r slot.now (omega (arith, at.3.0, length-places image))
+
+missing : (image : HeapImage) (r : ℕ) (slot : Option (Bor ImageRegion)) → IsItemAt (places image) r slot → IfNone slot (fill_count image ≤ r)
+missing image r None at = omega (arith, at.3, length-places image)
+missing image r (Some slot) at = tt
 
 pub returns-clause-place : goal.returns-clause-place
 returns-clause-place c =
-    let s = c.self.inside in
-    let image = image_in s.slots.items in
     let r = c.args.region in
-    let d = place_of image 0 in
-    let inside = subst (λ image. r < region_count image) (sym c.self.view_is) c.requires in
-    let few : r < length s.slots.items = omega (arith, ap length c.self.invariant.slots_are, length-places image, inside) in
-    get_or_read_under s.slots.items r (length s.slots.items) c.index.result.now d c.index.ensures few (omega arith)
-    ∙ ap (λ l. get_or l r d) c.self.invariant.slots_are
-    ∙ place-at image r d inside
-    ∙ ap (λ i. place_of i r) c.self.view_is
+    let image = c.args.self.now in
+    let all = c.self.invariant.slots_are ∙ ap places c.self.view_is in
+    let got : IsItemAt (places image) r c.get.result = subst (λ xs. IsItemAt xs r c.get.result) (c.deref.ensures.value ∙ all) c.get.ensures.lookup in
+    found image r c.get.result got
+
+pub returns-clause-other : goal.returns-clause-other
+returns-clause-other c =
+    let r = c.args.region in
+    let image = c.args.self.now in
+    let all = c.self.invariant.slots_are ∙ ap places c.self.view_is in
+    let got : IsItemAt (places image) r c.get.result = subst (λ xs. IsItemAt xs r c.get.result) (c.deref.ensures.value ∙ all) c.get.ensures.lookup in
+    missing image r c.get.result got
