@@ -1,4 +1,5 @@
 pub mod ImageText
+pub mod Front
 pub mod LengthCause
 pub mod Kept
 pub mod Refusals

@@ -12,7 +12,7 @@ use Rattle.object_heap.specs.declared.version.Version.{Version}
 use Rattle.heap_image.specs.ImageText.{front, text, fault_if, first_some, first_fault, front_faults, layout_faults, encoded_length}
 use Rattle.heap_image.specs.Refusals.{IsReason}
 use Rattle.heap_image.proofs.Lemmas.Faultless.{first_some-append, first_some_past, first_some-None, fault_if-None, front_faults-None, layout_fault-truncated, first_fault-text}
-use Rattle.heap_image.proofs.Lemmas.Versions.{FitsFront}
+use Rattle.heap_image.specs.Front.{FitsFront}
 use Rattle.heap_image.proofs.Lemmas.Refusing.{front_faults-append}
 use Rattle.heap_image.proofs.Lemmas.TextLaws.{text-injective, front_length}
 

@@ -13,11 +13,11 @@ returns-then-bytes-text_len-clause-fault c =
     let front = c.in_ok-front.front in
     let long = c.text_len.ensures in
     let short = c.if-bytes-text_len.true in
-    truncated_layout c.args.bytes.now front.version front.region_log front.count front.words front.allowance (record { limits = c.in_ok-front.ensures.limits; allowed = c.in_ok-front.ensures.allowed; counted = c.in_ok-front.ensures.counted }) c.in_ok-front.ensures.bytes c.if-bytes-lt-FRONT_BYTES.false (omega arith)
+    truncated_layout c.args.bytes.now front.version front.region_log front.count front.words front.allowance c.in_ok-front.ensures.fits.sizes c.in_ok-front.ensures.bytes c.if-bytes-lt-FRONT_BYTES.false (omega arith)
 
 pub returns-clause-ok : goal.returns-clause-ok
 returns-clause-ok c =
     let front = c.in_ok-front.front in
     let long = c.text_len.ensures in
     let enough = c.if-bytes-text_len.false in
-    layout_none c.args.bytes.now front.version front.region_log front.count front.words front.allowance (record { limits = c.in_ok-front.ensures.limits; allowed = c.in_ok-front.ensures.allowed; counted = c.in_ok-front.ensures.counted }) c.in_ok-front.ensures.bytes (omega arith)
+    layout_none c.args.bytes.now front.version front.region_log front.count front.words front.allowance c.in_ok-front.ensures.fits.sizes c.in_ok-front.ensures.bytes (omega arith)
