@@ -4,5 +4,7 @@ pub mod LengthCause
 pub mod Kept
 pub mod Refusals
 pub mod Reading
+pub mod Checks
+pub mod Decoding
 pub mod Unchecked
 pub mod Upgrade

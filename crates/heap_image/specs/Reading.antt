@@ -1,5 +1,5 @@
 -- An image that was read, before and after its check.
-use Rattle.std.specs.Prelude.{◌≡◌, ℕ, ◌<◌, ◌^◌, ◌++◌, IsTrue, List, All, Option, None, length, option_map}
+use Rattle.std.specs.Prelude.{◌≡◌, ℕ, ◌<◌, ◌^◌, ◌++◌, List, [], All, Option, None, length, option_map}
 use Rattle.std.specs.List.{concat}
 use Rattle.std.specs.Io.KnownBytes.{Consumes, IsAtEnd}
 use Rattle.object_heap.specs.HeapImage.{HeapImage, AreBlocks, IsValid, IsWithinLimits, heap_words, image_of, roots_or}
@@ -7,8 +7,7 @@ use Rattle.object_heap.specs.Version.{Allows}
 use Rattle.object_heap.specs.declared.version.Version.{Version}
 use Rattle.object_heap.specs.declared.version.Version.TheVariants.{One}
 use Rattle.heap_image.specs.ImageText.{text, listed_text, from_tail, first_some, first_object_fault, live_list_faults}
-use Rattle.object_heap.specs.Bits.{MarkBegins}
-use Rattle.live_objects.specs.Soundness.{AreWellFormed}
+use Rattle.heap_image.specs.Checks.{AreSeen}
 use Rattle.image_streams.specs.Numbers.{numbers}
 use Rattle.image_streams.specs.declared.body.Body.{Body}
 use Rattle.heap_image.specs.declared.io.front.Front.{Front}
@@ -50,9 +49,7 @@ pub record IsFound (read : Unchecked) : Type 0 where
   pub blocks : AreBlocks read.front.region_log read.regions.items
   pub live : read.found.live.items ≡ (from_tail read.front.version (numbers_of read)).live
   pub roots : option_map (λ v. v.items) read.found.roots ≡ (from_tail read.front.version (numbers_of read)).roots
-  pub inside : All (λ a. a < length (concat read.regions.items)) read.found.live.items
-  pub begins : MarkBegins read.found.live.items (length (concat read.regions.items)) read.found.begins
-  pub well_formed : IsTrue read.found.well_formed → AreWellFormed (objects_of read)
+  pub seen : AreSeen (image_of read.front.region_log 0 read.regions.items []) read.found.live.items read.found.begins read.found.well_formed
   pub ordered : first_some (live_list_faults (from_tail read.front.version (numbers_of read)))
       ≡ first_object_fault (objects_of read)
 

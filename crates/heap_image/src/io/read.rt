@@ -1,4 +1,5 @@
 //! Reads an image from a device: first its front, then its body, then the check of its live objects.
+ghost use Rattle.heap_image.specs.Checks.{Reports};
 ghost use Rattle.heap_image.specs.Front.{Fits, bytes_of};
 ghost use Rattle.heap_image.specs.ImageText.{first_object_fault};
 ghost use Rattle.heap_image.specs.Reading.{IsBodyOf, IsFound, IsRead, objects_of, text_of};
@@ -10,7 +11,7 @@ ghost use Rattle.image_streams.specs.RegionSource.{HasRegions};
 ghost use Rattle.object_heap.specs.HeapImage.{FormHeap, IsWithinLimits, image_of};
 ghost use Rattle.object_heap.specs.Sizes.{AreSizes};
 ghost use Rattle.std.specs.Io.KnownBytes.{Consumes};
-ghost use Rattle.std.specs.Prelude.{◌≡◌, ◌≢◌, ◌<◌, ◌≤◌, ◌+◌, ◌*◌, ◌⊎◌, ◌||◌, ℕ, List, Option, Some, None, [], false, length, IfOk, OnOk, IfErr, IfSome, IsTrue};
+ghost use Rattle.std.specs.Prelude.{◌≡◌, ◌≢◌, ◌<◌, ◌≤◌, ◌+◌, ◌*◌, ◌⊎◌, ◌||◌, ℕ, List, Option, Some, None, [], false, length, IfOk, IfErr, IfSome, IsTrue};
 
 use super::front::{FRONT_BYTES, Front};
 use crate::check::unchecked::{Found, find_live_objects};
@@ -133,8 +134,7 @@ impl Unchecked {
         requires heap { FormHeap self.now.front.region_log self.now.regions.items }
         requires found { IsFound self.now }
         requires sound { IsTrue are_sound → first_object_fault (objects_of self.now) ≡ None }
-        ensures ok { OnOk result (first_object_fault (objects_of self.now) ≡ None) }
-        ensures why { IfErr result (λ fault. first_object_fault (objects_of self.now) ≡ Some fault) }
+        ensures { Reports result (first_object_fault (objects_of self.now)) }
     {
         if are_sound {
             return Ok(());
@@ -153,8 +153,7 @@ impl Unchecked {
         sizes: Option<Vec<[u32; PIECE]>>,
     ) -> Result<Image, Fault>
         requires found { IsFound self }
-        requires ok { OnOk checked (first_object_fault (objects_of self) ≡ None) }
-        requires why { IfErr checked (λ fault. first_object_fault (objects_of self) ≡ Some fault) }
+        requires checked { Reports checked (first_object_fault (objects_of self)) }
         requires sizes { IfSome sizes (λ sizes. AreSizes (objects_of self) sizes.items) }
         requires works { R.has_failed reader.old ≡ false }
         ensures read { (before : Option (List ℕ)) → Consumes before (R.left reader.old) (text_of self)

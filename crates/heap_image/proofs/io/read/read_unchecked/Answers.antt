@@ -2,11 +2,10 @@ use Rattle.std.proofs.Common.{◌≡◌, ◌<◌, ◌⊎◌, ℕ, List, [], ap, 
 use Rattle.std.proofs.lemmas.Result.{err_from_is_err_and}
 use Rattle.std.specs.Prelude.{All, option_map}
 use Rattle.std.specs.Io.KnownBytes.{Consumes}
-use Rattle.object_heap.specs.Bits.{MarkBegins}
-use Rattle.live_objects.specs.Soundness.{AreWellFormed}
 use Rattle.object_heap.specs.HeapImage.{HeapImage, heap_words, image_of, with_live}
 use Rattle.image_streams.specs.declared.body.Body.{Body}
 use Rattle.image_streams.specs.declared.fault.Fault.TheVariants.{Memory}
+use Rattle.heap_image.specs.Checks.{AreSeen}
 use Rattle.heap_image.specs.Front.{Fits, bytes_of}
 use Rattle.heap_image.specs.ImageText.{listed_text, from_tail, first_some, first_object_fault, live_list_faults}
 use Rattle.heap_image.specs.Reading.{HasFittingNumbers, IsBodyOf}
@@ -78,7 +77,7 @@ returns-clause-text g c =
     let before = g.R.Intake.left c.args.reader.now in
     let after = g.R.Intake.left c.read_body.new.reader in
     let read = behind_read front body before (g.R.Intake.left c.read_front.new.reader) after c.in_ok-front.ensures.bytes c.in_ok-regions.ensures.body in
-    let found = c.in_ok-found.ensures in
+    let found = c.in_ok-found.ensures.found in
     let tail = tail_is front.version c.new-heap.result body.tail.items c.in_ok-found.found.live.items (option_map (λ v. v.items) c.in_ok-found.found.roots) found.live found.roots in
     subst (λ xs. Consumes before after (listed_text front.version (image_of front.region_log front.allowance body.regions.items xs))) (sym tail) read
 
@@ -91,7 +90,7 @@ returns-clause-found g c =
     let tail = c.in_ok-regions.field-0.tail.items in
     let live = c.in_ok-found.found.live.items in
     let roots = option_map (λ v. v.items) c.in_ok-found.found.roots in
-    let found = c.in_ok-found.ensures in
+    let found = c.in_ok-found.ensures.found in
     let same = c.new-heap.ensures ∙ ap (λ bs. image_of log 0 bs []) c.as_slice.ensures.value in
     let told = sym (tail_is version c.new-heap.result tail live roots found.live found.roots) in
     let body = c.in_ok-regions.ensures.body in
@@ -101,9 +100,7 @@ returns-clause-found g c =
       blocks = body.regions;
       live = found.live ∙ ap (λ heap. (from_tail version (with_live heap tail)).live) same ∙ sym (live_same version log front.allowance blocks tail) ∙ ap (λ xs. (from_tail version (image_of log front.allowance blocks xs)).live) told;
       roots = found.roots ∙ ap (λ heap. (from_tail version (with_live heap tail)).roots) same ∙ sym (roots_same version log front.allowance blocks tail) ∙ ap (λ xs. (from_tail version (image_of log front.allowance blocks xs)).roots) told;
-      inside = subst (λ heap. All (λ a. a < heap_words heap) live) same found.inside;
-      begins = subst (λ heap. MarkBegins live (heap_words heap) c.in_ok-found.found.begins) same found.begins;
-      well_formed = λ said. subst (λ heap. AreWellFormed (with_live heap live)) same (found.well_formed said);
+      seen = subst (λ heap. AreSeen heap live c.in_ok-found.found.begins c.in_ok-found.found.well_formed) same found.seen;
       ordered =
           ap (λ xs. first_some (live_list_faults (from_tail version (image_of log front.allowance blocks xs)))) (sym told)
           ∙ ap first_some (faults_same version log front.allowance blocks tail)

@@ -47,7 +47,7 @@ returns-in_err-checked-clause-refused g c = λ before read.
     let after = g.R.Intake.left c.args.reader.now in
     let found = c.requires.found in
     let fault = c.in_err-checked.field-0.0 in
-    let first = its_fault c.args.checked fault _ c.in_err-checked.was c.requires.why in
+    let first = its_fault c.args.checked fault _ c.in_err-checked.was c.requires.checked.fault in
     let why = inr (first_of c.args.self fault found first) in
     let kind = object_kind (objects_of c.args.self) fault first in
     rw (p.1, p.2) (record {
@@ -79,7 +79,7 @@ returns-then-branch-gt0-clause-refused g c = λ before read.
     let after = g.R.Intake.left c.args.reader.now in
     let end = g.R.Intake.left c.fill.new.reader in
     let found = c.requires.found in
-    let sound = found.ordered ∙ no_fault c.args.checked c.in_ok-checked.field-0 _ c.in_ok-checked.was c.requires.ok in
+    let sound = found.ordered ∙ no_fault c.args.checked c.in_ok-checked.field-0 _ c.in_ok-checked.was c.requires.checked.ok in
     let more = take c.in_ok-fill.field-0 c.fill.new.buffer in
     let one = one_taken c.fill.new.buffer c.in_ok-fill.field-0 c.fill.auto.buffer c.in_ok-fill.ensures.within c.if-branch-gt0.true in
     record {
@@ -92,7 +92,7 @@ returns-then-branch-gt0-clause-refused g c = λ before read.
 pub with_seen-requires-clause-valid : goal.with_seen-requires-clause-valid
 with_seen-requires-clause-valid g c =
     let found = c.requires.found in
-    let sound = found.ordered ∙ no_fault c.args.checked c.in_ok-checked.field-0 _ c.in_ok-checked.was c.requires.ok in
+    let sound = found.ordered ∙ no_fault c.args.checked c.in_ok-checked.field-0 _ c.in_ok-checked.was c.requires.checked.ok in
     subst IsValid (sym (parts_of c.args.self found.live found.roots)) (from_tail-IsValid c.objects_without_faults.ensures.live_list c.args.self.front.version (numbers_of c.args.self) found.fits sound)
 
 pub returns-clause-read : goal.returns-clause-read
