@@ -1,7 +1,10 @@
 pub mod ImageText
+pub mod Front
 pub mod LengthCause
 pub mod Kept
 pub mod Refusals
 pub mod Reading
+pub mod Checks
+pub mod Decoding
 pub mod Unchecked
 pub mod Upgrade

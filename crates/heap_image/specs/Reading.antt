@@ -1,14 +1,16 @@
 -- An image that was read, before and after its check.
-use Rattle.std.specs.Prelude.{◌≡◌, ℕ, ◌<◌, ◌^◌, IsTrue, List, All, Option, None, length, option_map}
+use Rattle.std.specs.Prelude.{◌≡◌, ℕ, ◌<◌, ◌^◌, ◌++◌, List, [], All, Option, None, length, option_map}
 use Rattle.std.specs.List.{concat}
 use Rattle.std.specs.Io.KnownBytes.{Consumes, IsAtEnd}
-use Rattle.object_heap.specs.HeapImage.{HeapImage, IsValid, IsWithinLimits, heap_words, image_of, roots_or}
+use Rattle.object_heap.specs.HeapImage.{HeapImage, AreBlocks, IsValid, IsWithinLimits, heap_words, image_of, roots_or}
 use Rattle.object_heap.specs.Version.{Allows}
 use Rattle.object_heap.specs.declared.version.Version.{Version}
 use Rattle.object_heap.specs.declared.version.Version.TheVariants.{One}
-use Rattle.heap_image.specs.ImageText.{text, from_tail, first_some, first_object_fault, live_list_faults}
-use Rattle.object_heap.specs.Bits.{MarkBegins}
-use Rattle.live_objects.specs.Soundness.{AreWellFormed}
+use Rattle.heap_image.specs.ImageText.{text, listed_text, from_tail, first_some, first_object_fault, live_list_faults}
+use Rattle.heap_image.specs.Checks.{AreSeen}
+use Rattle.image_streams.specs.Numbers.{numbers}
+use Rattle.image_streams.specs.declared.body.Body.{Body}
+use Rattle.heap_image.specs.declared.io.front.Front.{Front}
 use Rattle.heap_image.specs.declared.io.read.Unchecked.{Unchecked}
 
 -- all of an input was read, and it is the text of this image
@@ -33,12 +35,29 @@ abbrev pub numbers_of : Unchecked → HeapImage
 numbers_of read = image_of read.front.region_log read.front.allowance read.regions.items
     (roots_or read.found.live.items (option_map (λ v. v.items) read.found.roots))
 
+-- the text that was read
+abbrev pub text_of : Unchecked → List ℕ
+text_of read = listed_text read.front.version (numbers_of read)
+
+-- the words, with the live objects that were found
+abbrev pub objects_of : Unchecked → HeapImage
+objects_of read = image_of read.front.region_log 0 read.regions.items read.found.live.items
+
 -- the live objects and the roots are those of the numbers, and only faults of the objects are left
 pub record IsFound (read : Unchecked) : Type 0 where
+  pub fits : HasFittingNumbers read.front.version (numbers_of read)
+  pub blocks : AreBlocks read.front.region_log read.regions.items
   pub live : read.found.live.items ≡ (from_tail read.front.version (numbers_of read)).live
   pub roots : option_map (λ v. v.items) read.found.roots ≡ (from_tail read.front.version (numbers_of read)).roots
-  pub inside : All (λ a. a < length (concat read.regions.items)) read.found.live.items
-  pub begins : MarkBegins read.found.live.items (length (concat read.regions.items)) read.found.begins
-  pub well_formed : IsTrue read.found.well_formed → AreWellFormed (image_of read.front.region_log 0 read.regions.items read.found.live.items)
+  pub seen : AreSeen (image_of read.front.region_log 0 read.regions.items []) read.found.live.items read.found.begins read.found.well_formed
   pub ordered : first_some (live_list_faults (from_tail read.front.version (numbers_of read)))
-      ≡ first_object_fault (image_of read.front.region_log 0 read.regions.items read.found.live.items)
+      ≡ first_object_fault (objects_of read)
+
+-- the body behind this front, of which no byte is left
+pub record IsBodyOf (front : Front) (before after : Option (List ℕ)) (body : Body) : Type 0 where
+  pub bytes : Consumes before after (numbers (concat body.regions.items) ++ numbers body.tail.items)
+  pub regions : AreBlocks front.region_log body.regions.items
+  pub fit : All (λ w. w < 2 ^ 64) (concat body.regions.items)
+  pub words : length (concat body.regions.items) ≡ front.words
+  pub tail : length body.tail.items ≡ front.count
+  pub tail_fit : All (λ a. a < 2 ^ 64) body.tail.items

@@ -1,8 +1,8 @@
 -- Which faults reading returns for an input, and what it leaves of the input.
-use Rattle.std.specs.Prelude.{◌≡◌, ℕ, ◌+◌, List, [], drop, Option, Some, ◌⊎◌}
+use Rattle.std.specs.Prelude.{◌≡◌, ℕ, ◌+◌, ◌<◌, List, [], drop, length, Option, Some, None, IfSome, ◌⊎◌}
 use Rattle.image_streams.specs.declared.fault.Fault.{Fault}
 use Rattle.image_streams.specs.declared.fault.Fault.TheVariants.{TruncatedHeader, Magic, RegionLog, Length, TruncatedBody, LiveOrder, Header, Overlap, Reference, Trailing, Memory, Io, Root, Workers, Schedule, Overwritten, Gate}
-use Rattle.heap_image.specs.ImageText.{first_fault, encoded_length}
+use Rattle.heap_image.specs.ImageText.{first_fault, first_some, front_faults, encoded_length}
 
 -- memory ran out, the device failed, or this is the first fault of the input
 abbrev pub IsReason : List ℕ → Fault → Type 0
@@ -31,6 +31,14 @@ LeavesRest (Reference a f) input left = left ≡ Some (drop (encoded_length inpu
 LeavesRest (Root i) input left = left ≡ Some (drop (encoded_length input) input)
 LeavesRest Trailing input left = left ≡ Some (drop (encoded_length input + 1) input)
 LeavesRest _ input left = (n : ℕ) × (left ≡ Some (drop n input))
+
+-- An input is refused for this fault. Memory is allocated only once a byte after a front without fault has arrived.
+pub record IsRefusal (before after : Option (List ℕ)) (fault : Fault) : Type 0 where
+  -- this holds even if the input is not known
+  pub kind : IsOfReading fault
+  pub reason : IfSome before (λ input. IsReason input fault)
+  pub left : IfSome before (λ input. LeavesRest fault input after)
+  pub memory : fault ≡ Memory → IfSome before (λ input. (32 < length input) × (first_some (front_faults input) ≡ None))
 
 -- a fault of the numbers in a front of 32 bytes
 abbrev pub IsOfFront : Fault → Type 0

@@ -2,6 +2,7 @@
 ghost use Rattle.std.specs.Prelude.{◌≡◌, ◌<◌, ◌≤◌, ◌+◌, ◌/◌, ◌^◌, ◌⊎◌, ◌==◌, ℕ, Option, Some, None, [], ◌∷◌, List, All, option_map, find, map, OnOk, IfErr, IsTrue, length};
 ghost use Rattle.std.specs.List.{list_any, range_with_len};
 ghost use Rattle.object_heap.specs.HeapImage.{heap_words, with_live, references_at, is_null_or_live};
+ghost use Rattle.heap_image.specs.Checks.{AreSeen, Reports};
 ghost use Rattle.heap_image.specs.ImageText.{first_object_fault};
 ghost use Rattle.object_heap.specs.ObjectFaults.{misplaced_index, is_dangling};
 ghost use Rattle.object_heap.specs.Bits.{MarkBegins};
@@ -35,8 +36,7 @@ pub(crate) fn misplaced_index(live: &[u64], words: u64) -> Option<u32>
 fn check_objects(heap: &Heap<'_>, live: &[u64], bits: &Bits) -> Result<(), Fault>
     requires inside { All (λ a. a < heap_words heap.now) live.now }
     requires bits { MarkBegins live.now (heap_words heap.now) bits.now }
-    ensures ok { OnOk result (first_object_fault (with_live heap.now live.now) ≡ None) }
-    ensures fault { IfErr result (λ fault. first_object_fault (with_live heap.now live.now) ≡ Some fault) }
+    ensures { Reports result (first_object_fault (with_live heap.now live.now)) }
 {
     let words = heap.len();
     let mut end = 0;
@@ -72,11 +72,8 @@ pub(crate) fn check_live(
     bits: &Bits,
     well_formed: bool,
 ) -> Result<(), Fault>
-    requires inside { All (λ a. a < heap_words heap.now) live.now }
-    requires bits { MarkBegins live.now (heap_words heap.now) bits.now }
-    requires well_formed { IsTrue well_formed → AreWellFormed (with_live heap.now live.now) }
-    ensures ok { OnOk result (first_object_fault (with_live heap.now live.now) ≡ None) }
-    ensures fault { IfErr result (λ fault. first_object_fault (with_live heap.now live.now) ≡ Some fault) }
+    requires { AreSeen heap.now live.now bits.now well_formed }
+    ensures { Reports result (first_object_fault (with_live heap.now live.now)) }
 {
     if well_formed {
         return check_overlaps(heap, live);
@@ -88,8 +85,7 @@ pub(crate) fn check_live(
 fn check_overlaps(heap: &Heap<'_>, live: &[u64]) -> Result<(), Fault>
     requires inside { All (λ a. a < heap_words heap.now) live.now }
     requires well_formed { AreWellFormed (with_live heap.now live.now) }
-    ensures ok { OnOk result (first_object_fault (with_live heap.now live.now) ≡ None) }
-    ensures fault { IfErr result (λ fault. first_object_fault (with_live heap.now live.now) ≡ Some fault) }
+    ensures { Reports result (first_object_fault (with_live heap.now live.now)) }
 {
     is_small(heap);
     let mut end = 0;

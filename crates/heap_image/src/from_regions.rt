@@ -1,12 +1,13 @@
 //! An image of regions that a caller has, which no word is copied for.
-ghost use Rattle.std.specs.Prelude.{◌≡◌, ◌<◌, ◌≤◌, ◌^◌, ◌⊎◌, Some, None, [], All, length, map, IfOk, OnOk, IfErr, IfSome, option_map};
+ghost use Rattle.std.specs.Prelude.{◌≡◌, ◌<◌, ◌≤◌, ◌^◌, Some, [], All, length, map, IfOk, OnOk, IfErr, IfSome};
 ghost use Rattle.std.specs.List.{concat, range_with_len};
-ghost use Rattle.object_heap.specs.Bits.{MarkBegins};
-ghost use Rattle.object_heap.specs.HeapImage.{FormHeap, IsValid, IsWithinLimits, AreBlocks, image_of, block_of, region_count};
-ghost use Rattle.heap_image.specs.ImageText.{text, listed_text, from_tail, front, front_faults, first_fault, first_some, first_object_fault, live_list_faults};
+ghost use Rattle.object_heap.specs.HeapImage.{FormHeap, IsValid, AreBlocks, image_of, block_of, region_count};
+ghost use Rattle.heap_image.specs.Checks.{AreOfTail, IsMemoryOr, MayReport};
+ghost use Rattle.heap_image.specs.Front.{Fits, bytes_of};
+ghost use Rattle.heap_image.specs.ImageText.{text, listed_text, from_tail, front_faults, first_fault, first_some, live_list_faults};
+ghost use Rattle.heap_image.specs.Reading.{HasFittingNumbers};
 ghost use Rattle.object_heap.specs.Sizes.{AreSizes};
-ghost use Rattle.heap_image.specs.Unchecked.{numbers_in};
-ghost use Rattle.object_heap.specs.Version.{Allows};
+ghost use Rattle.heap_image.specs.Unchecked.{front_in, numbers_in};
 
 use crate::check::unchecked::{Found, find_live_objects};
 use crate::io::front::Front;
@@ -49,8 +50,8 @@ pub fn image_of_regions(alloc: Global, parts: UncheckedParts) -> Result<Image, R
     ensures image { IfOk result (λ image. image ≡ from_tail parts.version (numbers_in parts)) }
     ensures blocks { IfOk result (λ image. parts.regions.items ≡ map (block_of image) (range_with_len 0 (region_count image))) }
     ensures text { IfOk result (λ image. text image ≡ listed_text parts.version (numbers_in parts)) }
-    ensures fault { IfErr result (λ refused. (refused.fault ≡ Fault.Memory)
-        ⊎ (first_fault (listed_text parts.version (numbers_in parts)) ≡ Some refused.fault)) }
+    ensures fault { IfErr result
+        (λ refused. IsMemoryOr (first_fault (listed_text parts.version (numbers_in parts))) refused.fault) }
     ensures back { IfErr result (λ refused. refused.regions.items ≡ parts.regions.items) }
 {
     blocks_joined();
@@ -85,17 +86,8 @@ pub fn image_of_regions(alloc: Global, parts: UncheckedParts) -> Result<Image, R
 impl UncheckedParts {
     /// Checks the sizes by the front that the image would have, whose faults are 3 and 4.
     fn check_sizes(&self) -> Result<(), Fault>
-        ensures limits { OnOk result
-            (IsWithinLimits self.now.region_log (length (concat self.now.regions.items)) (length self.now.tail.items)) }
-        ensures allowed { OnOk result
-            (Allows self.now.version self.now.region_log (length (concat self.now.regions.items))) }
-        ensures counted { OnOk result (length self.now.tail.items < 2 ^ 32) }
-        ensures words_fit { OnOk result (All (λ w. w < 2 ^ 64) (concat self.now.regions.items)) }
-        ensures tail_fit { OnOk result (All (λ w. w < 2 ^ 64) self.now.tail.items) }
-        ensures allowance_fits { OnOk result (self.now.allowance < 2 ^ 64) }
-        ensures fault { IfErr result (λ fault. (fault ≡ Fault.Memory)
-            ⊎ (first_some (front_faults (front self.now.version self.now.region_log (length self.now.tail.items)
-            (length (concat self.now.regions.items)) self.now.allowance)) ≡ Some fault)) }
+        ensures fits { OnOk result (HasFittingNumbers self.now.version (numbers_in self.now)) }
+        ensures fault { IfErr result (IsMemoryOr (first_some (front_faults (front_in self.now)))) }
     {
         let count = length_of(self.tail.as_slice());
         let Some(words) = word_count(self.regions.as_slice()) else {
@@ -116,11 +108,8 @@ impl UncheckedParts {
 
 /// Checks the sizes in a front, whose faults are 3 and 4.
 fn check_front(fields: Front) -> Result<(), Fault>
-    ensures limits { OnOk result (IsWithinLimits fields.region_log fields.words fields.count) }
-    ensures allowance_fits { fields.allowance < 2 ^ 64 }
-    ensures allowed { OnOk result (Allows fields.version fields.region_log fields.words) }
-    ensures fault { IfErr result (λ fault. first_some (front_faults
-        (front fields.version fields.region_log fields.count fields.words fields.allowance)) ≡ Some fault) }
+    ensures fits { OnOk result (Fits fields) }
+    ensures fault { IfErr result (λ fault. first_some (front_faults (bytes_of fields)) ≡ Some fault) }
 {
     Front::parse(&fields.to_bytes())?;
     Ok(())
@@ -166,18 +155,12 @@ fn find_sound_objects(
     requires heap { FormHeap region_log regions.now }
     requires few { length tail.items ≤ length (concat regions.now) }
     requires counted { length tail.items < 2 ^ 32 }
-    ensures live { IfOk result
-        (λ sound. sound.found.live.items ≡ (from_tail version (image_of region_log 0 regions.now tail.items)).live) }
-    ensures roots { IfOk result
-        (λ sound. option_map (λ v. v.items) sound.found.roots ≡ (from_tail version (image_of region_log 0 regions.now tail.items)).roots) }
-    ensures begins { IfOk result
-        (λ sound. MarkBegins sound.found.live.items (length (concat regions.now)) sound.found.begins) }
+    ensures found { IfOk result
+        (λ sound. AreOfTail (image_of region_log 0 regions.now []) version tail.items sound.found) }
     ensures sizes { IfOk result (λ sound. IfSome sound.sizes
         (λ sizes. AreSizes (image_of region_log 0 regions.now sound.found.live.items) sizes.items)) }
-    ensures sound { OnOk result
-        (first_some (live_list_faults (from_tail version (image_of region_log 0 regions.now tail.items))) ≡ None) }
-    ensures fault { IfErr result (λ fault. (fault ≡ Fault.Memory)
-        ⊎ (first_some (live_list_faults (from_tail version (image_of region_log 0 regions.now tail.items))) ≡ Some fault)) }
+    ensures faults { let faults = live_list_faults (from_tail version (image_of region_log 0 regions.now tail.items)) in
+        MayReport result (first_some faults) }
 {
     let heap = Heap::new(regions, region_log);
     let found = find_live_objects(alloc, &heap, version, tail, &Alone)?;

@@ -1,7 +1,6 @@
 //! Laws of images and their texts, for callers' proofs, which have no other way to them. The functions do nothing: each one's
 //! contract is a law.
-ghost use Rattle.std.specs.Prelude.{◌≡◌, ◌*◌, ◌⊎◌, ℕ, List, true, false, [], Option, Some, None, Result, Ok, Err, IfSome, IfOk, IfErr, OnOk, length};
-ghost use Rattle.std.specs.Io.KnownBytes.{Consumes, IsAtEnd};
+ghost use Rattle.std.specs.Prelude.{◌≡◌, ◌*◌, ◌⊎◌, ℕ, List, true, false, [], Option, Some, None, Result, Ok, Err, IfOk, IfErr, length};
 ghost use Rattle.image_streams.specs.Device.{is_io};
 ghost use Rattle.heap_image.specs.Refusals.{IsReason};
 ghost use Rattle.object_heap.specs.Version.{has_roots, magic};
@@ -13,7 +12,7 @@ ghost use Rattle.object_heap.specs.HeapImage.{HeapImage, IsValid, heap_words, im
 ghost use Rattle.heap_image.specs.ImageText.{text, version_of_magic, encoded_words, with_tail, from_tail, first_some, live_list_faults, FaultlessIsText, TextIsFaultless};
 ghost use Rattle.object_heap.specs.ObjectFaults.{misplaced_index, unsound_header, dangling, beyond};
 ghost use Rattle.image_streams.specs.Numbers.{numbers};
-ghost use Rattle.heap_image.specs.Reading.{HasFittingNumbers};
+ghost use Rattle.heap_image.specs.Reading.{HasFittingNumbers, IsRead};
 
 use crate::image::Image;
 use object_heap::{objects_without_faults, reachable_is_the_least_closed};
@@ -76,8 +75,7 @@ pub fn text_tells_its_size()
 
 /// What was read of the text of a valid image is that image, unless memory ran out.
 pub fn text_is_read_back()
-    ensures { (bytes : List ℕ) (answer : Result HeapImage Fault) (left : Option (List ℕ)) → IfOk answer IsValid
-        → IfOk answer (λ i. Consumes (Some bytes) left (text i)) → OnOk answer (IsAtEnd left)
-        → IfErr answer (λ fault. IfSome (Some bytes) (λ input. IsReason input fault)) → false ≡ is_io answer
+    ensures { (bytes : List ℕ) (answer : Result HeapImage Fault) (left : Option (List ℕ))
+        → IfOk answer (λ i. IsRead i (Some bytes) left) → IfErr answer (IsReason bytes) → false ≡ is_io answer
         → (image : HeapImage) → IsValid image → bytes ≡ text image → (answer ≡ Ok image) ⊎ (answer ≡ Err Memory) }
 {}

@@ -19,7 +19,8 @@ use Rattle.image_streams.specs.Numbers.{numbers}
 use Rattle.image_streams.specs.declared.fault.Fault.{Fault}
 use Rattle.heap_image.proofs.Lemmas.LiveWords.{Apart, live_apart, live_end-le}
 use Rattle.heap_image.proofs.Lemmas.TextLaws.{valid_numbers, encoded_image-append, from_tail-with_tail, length_told, fronted, front_fits, front_log, front_live, front_words, front_length}
-use Rattle.heap_image.proofs.Lemmas.Versions.{FitsFront, known_magic, magic_names}
+use Rattle.heap_image.specs.Front.{FitsFront}
+use Rattle.heap_image.proofs.Lemmas.Versions.{known_magic, magic_names}
 
 pub find_none : {X : Type 0} (t : X → Bool) (xs : List X) (d : X) → ((i : ℕ) → i < length xs → t (get_or xs i d) ≡ false) → find t xs ≡ None
 find_none t [] d h = refl

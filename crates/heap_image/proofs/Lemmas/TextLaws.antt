@@ -17,7 +17,8 @@ use Rattle.object_heap.specs.declared.version.Version.TheVariants.{One, Two, Thr
 use Rattle.heap_image.specs.ImageText.{front, text, listed_text, with_tail, from_tail, encoded_version, encoded_image, encoded_numbers, encoded_words, encoded_count, encoded_region_log, encoded_length}
 use Rattle.image_streams.specs.Numbers.{numbers, u64_at}
 use Rattle.heap_image.proofs.Lemmas.LiveWords.{live_end-le}
-use Rattle.heap_image.proofs.Lemmas.Versions.{FitsFront, few_of_listed, magic_names}
+use Rattle.heap_image.specs.Front.{FitsFront}
+use Rattle.heap_image.proofs.Lemmas.Versions.{few_of_listed, magic_names}
 
 pub length-numbers : (xs : List ℕ) → length (numbers xs) ≡ 8 * length xs
 length-numbers [] = refl

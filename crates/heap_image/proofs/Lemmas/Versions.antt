@@ -45,9 +45,3 @@ pub known_magic : (v : Version) → not (bytes_eq (magic v) (magic (version_of_m
 known_magic One = refl
 known_magic Two = refl
 known_magic Three = refl
-
--- the numbers of a front of this version
-pub record FitsFront (version : Version) (log words count : ℕ) : Type 0 where
-  pub limits : IsWithinLimits log words count
-  pub allowed : Allows version log words
-  pub counted : count < 2 ^ 32

@@ -2,17 +2,19 @@
 use Rattle.std.proofs.Common.{◌≡◌, ℕ, ◌+◌, ◌*◌, ◌≤◌, ◌<◌, ◌⊎◌, inl, inr, false, ltb, List, [], ◌∷◌, ◌++◌, length, take, drop, sym, ◌∙◌, ap, arith, length-take, length-drop, Option, Some, None, Result, Ok, Err}
 use Rattle.std.proofs.lemmas.Bool.{le-ltb, true≢false}
 use Rattle.std.proofs.lemmas.List.{take-append-drop, append-nil}
-use Rattle.std.specs.Prelude.{IfOk, OnOk, IfErr, IfSome}
-use Rattle.std.specs.Io.KnownBytes.{Consumes, IsAtEnd}
+use Rattle.std.specs.Prelude.{IfOk, IfErr}
+use Rattle.std.specs.Io.KnownBytes.{Consumes}
 use Rattle.image_streams.specs.declared.fault.Fault.{Fault}
 use Rattle.image_streams.specs.declared.fault.Fault.TheVariants.{TruncatedBody, Memory}
 use Rattle.image_streams.specs.Device.{is_io}
 use Rattle.object_heap.specs.HeapImage.{HeapImage, IsValid}
 use Rattle.object_heap.specs.declared.version.Version.{Version}
 use Rattle.heap_image.specs.ImageText.{front, text, fault_if, first_some, first_fault, front_faults, layout_faults, encoded_length}
-use Rattle.heap_image.specs.Refusals.{IsReason}
+use Rattle.heap_image.specs.Decoding.{Decodes}
+use Rattle.heap_image.specs.Reading.{IsRead}
+use Rattle.heap_image.specs.Refusals.{IsReason, IsRefusal}
 use Rattle.heap_image.proofs.Lemmas.Faultless.{first_some-append, first_some_past, first_some-None, fault_if-None, front_faults-None, layout_fault-truncated, first_fault-text}
-use Rattle.heap_image.proofs.Lemmas.Versions.{FitsFront}
+use Rattle.heap_image.specs.Front.{FitsFront}
 use Rattle.heap_image.proofs.Lemmas.Refusing.{front_faults-append}
 use Rattle.heap_image.proofs.Lemmas.TextLaws.{text-injective, front_length}
 
@@ -52,15 +54,45 @@ no_refusal bytes image fault valid is first = let none : first_fault bytes ≡ N
     some_none h = cc
 
 -- so what has a fault of the layout is not its text
-pub refused_only : {P : Type 0} (bytes : List ℕ) (image : HeapImage) (fault : Fault) (answer : Result HeapImage Fault) → IsValid image → bytes ≡ text image → first_some (layout_faults bytes) ≡ Some fault → P
-refused_only bytes image fault answer valid is first = absurd (no_refusal bytes image fault valid is (layout_fault_first bytes fault first))
+pub decoded_by_layout : (bytes : List ℕ) (fault : Fault) → first_some (layout_faults bytes) ≡ Some fault → (fault ≡ Memory → ⊥) → Decodes bytes (Err fault)
+decoded_by_layout bytes fault first other = record {
+  text = tt;
+  only = λ image valid is. absurd (no_refusal bytes image fault valid is (layout_fault_first bytes fault first));
+  fault = inr (layout_fault_first bytes fault first);
+  memory = λ e. absurd (other e);
+}
 
-pub decodes_only : (bytes : List ℕ) (answer : Result HeapImage Fault) (left : Option (List ℕ)) → IfOk answer IsValid → IfOk answer (λ i. Consumes (Some bytes) left (text i)) → OnOk answer (IsAtEnd left)
-    → IfErr answer (λ fault. IfSome (Some bytes) (λ input. IsReason input fault)) → false ≡ is_io answer
+whole_text : (bytes : List ℕ) (image : HeapImage) (left : Option (List ℕ)) → IsRead image (Some bytes) left → bytes ≡ text image
+whole_text bytes image None read = absurd read.text
+whole_text bytes image (Some rest) read = read.text ∙ ap (λ l. text image ++ l) read.end ∙ append-nil (text image)
+
+-- a device that works gives a fault of its bytes, or runs out of memory
+first_or_memory : (bytes : List ℕ) (fault : Fault) → IsReason bytes fault → false ≡ is_io {A = HeapImage} (Err fault) → (fault ≡ Memory) ⊎ (first_fault bytes ≡ Some fault)
+first_or_memory bytes fault (inl memory) io = inl memory
+first_or_memory bytes fault (inr (inl device)) io = absurd (true≢false (sym (io ∙ ap (λ f. is_io {A = HeapImage} (Err f)) device)))
+first_or_memory bytes fault (inr (inr first)) io = inr first
+
+memory_only : (bytes : List ℕ) (fault : Fault) (image : HeapImage) → IsValid image → bytes ≡ text image → (fault ≡ Memory) ⊎ (first_fault bytes ≡ Some fault) → fault ≡ Memory
+memory_only bytes fault image sound is (inl memory) = memory
+memory_only bytes fault image sound is (inr first) = absurd (no_refusal bytes image fault sound is first)
+
+pub decodes_only : (bytes : List ℕ) (answer : Result HeapImage Fault) (left : Option (List ℕ)) → IfOk answer (λ i. IsRead i (Some bytes) left) → IfErr answer (IsReason bytes) → false ≡ is_io answer
     → (image : HeapImage) → IsValid image → bytes ≡ text image → (answer ≡ Ok image) ⊎ (answer ≡ Err Memory)
-decodes_only bytes (Ok found) None valid read end why io image sound is = absurd read
-decodes_only bytes (Ok found) (Some rest) valid read end why io image sound is =
-    inl (ap Ok (text-injective found image valid sound (sym (append-nil (text found)) ∙ ap (λ l. text found ++ l) (sym end) ∙ sym read ∙ is)))
-decodes_only bytes (Err fault) left valid read end (inl memory) io image sound is = inr (ap Err memory)
-decodes_only bytes (Err fault) left valid read end (inr (inl device)) io image sound is = absurd (true≢false (sym (io ∙ ap (λ f. is_io {A = HeapImage} (Err f)) device)))
-decodes_only bytes (Err fault) left valid read end (inr (inr first)) io image sound is = absurd (no_refusal bytes image fault sound is first)
+decodes_only bytes (Ok found) left read why io image sound is =
+    inl (ap Ok (text-injective found image read.valid sound (sym (whole_text bytes found left read) ∙ is)))
+decodes_only bytes (Err fault) left read why io image sound is = inr (ap Err (memory_only bytes fault image sound is (first_or_memory bytes fault why io)))
+
+pub decoded_by_reading : (bytes : List ℕ) (answer : Result HeapImage Fault) (left : Option (List ℕ)) → IfOk answer (λ i. IsRead i (Some bytes) left) → IfErr answer (IsRefusal (Some bytes) left) → false ≡ is_io answer
+    → first_some (layout_faults bytes) ≡ None → Decodes bytes answer
+decoded_by_reading bytes (Ok found) left read refused io none = record {
+  text = (read.valid, whole_text bytes found left read);
+  only = decodes_only bytes (Ok found) left read tt io;
+  fault = tt;
+  memory = tt;
+}
+decoded_by_reading bytes (Err fault) left read refused io none = record {
+  text = tt;
+  only = decodes_only bytes (Err fault) left tt refused.reason io;
+  fault = first_or_memory bytes fault refused.reason io;
+  memory = λ _. none;
+}

@@ -1,9 +1,8 @@
 //! The live objects of an image that was read, and their check.
-ghost use Rattle.std.specs.Prelude.{◌≡◌, ◌<◌, ◌≤◌, ◌^◌, ◌⊎◌, Some, None, All, length, IfOk, IfSome, OnOk, IfErr, IsTrue, option_map};
-ghost use Rattle.object_heap.specs.Bits.{MarkBegins};
+ghost use Rattle.std.specs.Prelude.{◌≡◌, ◌<◌, ◌≤◌, ◌^◌, None, length, IfOk, IfSome, IfErr};
 ghost use Rattle.object_heap.specs.Sizes.{AreSizes};
-ghost use Rattle.live_objects.specs.Soundness.{AreWellFormed};
 ghost use Rattle.object_heap.specs.HeapImage.{heap_words, with_live};
+ghost use Rattle.heap_image.specs.Checks.{AreOfTail, AreSeen, IsMemoryOr, Reports};
 ghost use Rattle.heap_image.specs.ImageText.{from_tail, first_some, first_object_fault, live_list_faults};
 
 use super::{check_live, misplaced_index};
@@ -39,21 +38,9 @@ pub(crate) fn find_live_objects<M: Marker>(
     requires marker { M.may_start }
     requires few { length tail.items ≤ heap_words heap.now }
     requires fits { length tail.items < 2 ^ 32 }
-    ensures live { let image = from_tail version (with_live heap.now tail.items) in
-        IfOk result (λ found. found.live.items ≡ image.live) }
-    ensures roots { let image = from_tail version (with_live heap.now tail.items) in
-        IfOk result (λ found. option_map (λ v. v.items) found.roots ≡ image.roots) }
-    ensures inside { IfOk result (λ found. All (λ a. a < heap_words heap.now) found.live.items) }
-    ensures begins { IfOk result
-        (λ found. MarkBegins found.live.items (heap_words heap.now) found.begins) }
-    ensures well_formed { IfOk result (λ found. IsTrue found.well_formed
-        → AreWellFormed (with_live heap.now found.live.items)) }
-    // Only faults of the objects are left.
-    ensures ordered { let image = from_tail version (with_live heap.now tail.items) in
-        IfOk result (λ found. first_some (live_list_faults image)
-        ≡ first_object_fault (with_live heap.now found.live.items)) }
-    ensures fault { let image = from_tail version (with_live heap.now tail.items) in
-        IfErr result (λ fault. (fault ≡ Fault.Memory) ⊎ (first_some (live_list_faults image) ≡ Some fault)) }
+    ensures found { IfOk result (AreOfTail heap.now version tail.items) }
+    ensures fault { let faults = live_list_faults (from_tail version (with_live heap.now tail.items)) in
+        IfErr result (IsMemoryOr (first_some faults)) }
 {
     if version.has_roots() {
         let Reached {
@@ -85,13 +72,8 @@ pub(crate) fn find_live_objects<M: Marker>(
 impl Found {
     /// Checks the live objects of their heap and returns their first fault. One thread visits each object once.
     pub(crate) fn check(&self, heap: &Heap<'_>) -> Result<(), Fault>
-        requires inside { All (λ a. a < heap_words heap.now) self.now.live.items }
-        requires begins { MarkBegins self.now.live.items (heap_words heap.now) self.now.begins }
-        requires well_formed { IsTrue self.now.well_formed → AreWellFormed (with_live heap.now self.now.live.items) }
-        ensures ok { OnOk result
-            (first_object_fault (with_live heap.now self.now.live.items) ≡ None) }
-        ensures fault { IfErr result
-            (λ fault. first_object_fault (with_live heap.now self.now.live.items) ≡ Some fault) }
+        requires { AreSeen heap.now self.now.live.items self.now.begins self.now.well_formed }
+        ensures { Reports result (first_object_fault (with_live heap.now self.now.live.items)) }
     {
         check_live(heap, self.live.as_slice(), &self.begins, self.well_formed)
     }
@@ -105,13 +87,9 @@ impl Found {
         marker: &M,
     ) -> Option<Vec<[u32; PIECE]>>
         requires marker { M.may_start }
-        requires inside { All (λ a. a < heap_words heap.now) self.now.live.items }
-        requires begins { MarkBegins self.now.live.items (heap_words heap.now) self.now.begins }
-        requires well_formed { IsTrue self.now.well_formed → AreWellFormed (with_live heap.now self.now.live.items) }
-        ensures ok { IfSome result
-            (λ _. first_object_fault (with_live heap.now self.now.live.items) ≡ None) }
-        ensures sizes { IfSome result
-            (λ sizes. AreSizes (with_live heap.now self.now.live.items) sizes.items) }
+        requires seen { AreSeen heap.now self.now.live.items self.now.begins self.now.well_formed }
+        ensures ok { IfSome result (λ _. first_object_fault (with_live heap.now self.now.live.items) ≡ None) }
+        ensures sizes { IfSome result (λ sizes. AreSizes (with_live heap.now self.now.live.items) sizes.items) }
     {
         let live = self.live.as_slice();
         if self.well_formed {

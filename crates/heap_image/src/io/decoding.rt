@@ -1,7 +1,8 @@
 //! Decodes an image from bytes in memory.
-ghost use Rattle.std.specs.Prelude.{◌≡◌, ◌≢◌, ◌⊎◌, ◌≤◌, ◌+◌, ◌*◌, ◌<◌, Some, None, Ok, Err, length, IfOk, OnOk, IfErr};
-ghost use Rattle.object_heap.specs.HeapImage.{HeapImage, IsValid};
-ghost use Rattle.heap_image.specs.ImageText.{text, first_fault, first_some, layout_faults};
+ghost use Rattle.std.specs.Prelude.{◌≡◌, ◌≢◌, ◌≤◌, ◌+◌, ◌*◌, length, IfErr};
+ghost use Rattle.heap_image.specs.Checks.{Reports};
+ghost use Rattle.heap_image.specs.Decoding.{Decodes};
+ghost use Rattle.heap_image.specs.ImageText.{first_some, layout_faults};
 
 use super::front::{FRONT_BYTES, Front};
 use super::read::{read_image, read_image_by_threads};
@@ -13,14 +14,7 @@ use std::thread::Threads;
 /// Decodes the text of an image, or returns the first fault of the bytes: 1 to 10 or 17, or 11 if memory runs out. For
 /// faults 1 to 5 no memory is allocated. Runs in the caller's thread alone.
 pub fn decode(alloc: Global, bytes: &[u8]) -> Result<Image, Fault>
-    ensures text { IfOk result (λ image. IsValid image × (bytes.now ≡ text image)) }
-    // The text of a valid image is rejected only if memory runs out.
-    ensures only { (image : HeapImage) → IsValid image → bytes.now ≡ text image
-        → (result ≡ Ok image) ⊎ (result ≡ Err Fault.Memory) }
-    ensures fault { IfErr result
-        (λ fault. (fault ≡ Fault.Memory) ⊎ (first_fault bytes.now ≡ Some fault)) }
-    ensures memory { IfErr result
-        (λ fault. fault ≡ Fault.Memory → first_some (layout_faults bytes.now) ≡ None) }
+    ensures { Decodes bytes.now result }
 {
     layout_fault(bytes)?;
     read_image(alloc, &mut Bytes(bytes))
@@ -33,14 +27,7 @@ pub fn decode_by_threads(
     bytes: &[u8],
     threads: &(impl Threads + Sync),
 ) -> Result<Image, Fault>
-    ensures text { IfOk result (λ image. IsValid image × (bytes.now ≡ text image)) }
-    // The text of a valid image is rejected only if memory runs out.
-    ensures only { (image : HeapImage) → IsValid image → bytes.now ≡ text image
-        → (result ≡ Ok image) ⊎ (result ≡ Err Fault.Memory) }
-    ensures fault { IfErr result
-        (λ fault. (fault ≡ Fault.Memory) ⊎ (first_fault bytes.now ≡ Some fault)) }
-    ensures memory { IfErr result
-        (λ fault. fault ≡ Fault.Memory → first_some (layout_faults bytes.now) ≡ None) }
+    ensures { Decodes bytes.now result }
 {
     layout_fault(bytes)?;
     read_image_by_threads(alloc, &mut Bytes(bytes), threads)
@@ -48,8 +35,7 @@ pub fn decode_by_threads(
 
 /// The first of the faults 1 to 5 that these bytes have, if any.
 fn layout_fault(bytes: &[u8]) -> Result<(), Fault>
-    ensures ok { OnOk result (first_some (layout_faults bytes.now) ≡ None) }
-    ensures fault { IfErr result (λ fault. first_some (layout_faults bytes.now) ≡ Some fault) }
+    ensures first { Reports result (first_some (layout_faults bytes.now)) }
     ensures memory { IfErr result (λ fault. fault ≢ Fault.Memory) }
 {
     if bytes.len() < FRONT_BYTES {

@@ -1,8 +1,9 @@
 //! The front: the first 32 bytes of an image's text.
-ghost use Rattle.std.specs.Prelude.{◌≡◌, ◌≢◌, ◌<◌, ◌≤◌, ◌^◌, ◌+◌, ◌*◌, length, take, is_some, Some, IfOk, IfErr, IfNone, IfSome, option_map};
+ghost use Rattle.std.specs.Prelude.{◌≡◌, ◌≢◌, ◌≤◌, ◌^◌, ◌+◌, ◌*◌, length, take, is_some, Some, IfOk, IfErr, IfNone, IfSome, option_map};
 ghost use Rattle.std.specs.Str.{bytes_eq};
-ghost use Rattle.heap_image.specs.ImageText.{front, front_faults, first_some, encoded_region_log, encoded_count, encoded_version, encoded_words};
-ghost use Rattle.object_heap.specs.Version.{magic, Allows, max_region_log};
+ghost use Rattle.heap_image.specs.Front.{Fits, HasAllowedRegions, IsToldBy, bytes_of};
+ghost use Rattle.heap_image.specs.ImageText.{front_faults, first_some, encoded_version};
+ghost use Rattle.object_heap.specs.Version.{magic, Allows};
 ghost use Rattle.object_heap.specs.HeapImage.{IsWithinLimits};
 ghost use Rattle.heap_image.specs.LengthCause.{length_causes, first_length_cause};
 ghost use Rattle.heap_image.specs.Refusals.{IsOfFront};
@@ -34,13 +35,8 @@ impl Front {
     /// Parses a front, or returns its first fault.
     pub(crate) fn parse(bytes: &[u8]) -> Result<Front, Fault>
         requires { length bytes.now ≡ 32 }
-        ensures bytes { IfOk result
-            (λ parsed. bytes.now ≡ front parsed.version parsed.region_log parsed.count parsed.words parsed.allowance) }
-        ensures limits { IfOk result
-            (λ parsed. IsWithinLimits parsed.region_log parsed.words parsed.count) }
-        ensures allowed { IfOk result (λ parsed. Allows parsed.version parsed.region_log parsed.words) }
-        ensures fit { IfOk result (λ parsed. parsed.allowance < 2 ^ 64) }
-        ensures counted { IfOk result (λ parsed. parsed.count < 2 ^ 32) }
+        ensures bytes { IfOk result (λ parsed. bytes.now ≡ bytes_of parsed) }
+        ensures fits { IfOk result Fits }
         ensures fault { IfErr result (λ fault. first_some (front_faults bytes.now) ≡ Some fault) }
         ensures of_front { IfErr result IsOfFront }
     {
@@ -55,17 +51,8 @@ impl Front {
     /// region log.
     pub(crate) fn parse_unvalidated(bytes: &[u8]) -> Result<Front, Fault>
         requires { length bytes.now ≡ 32 }
-        ensures bytes { IfOk result
-            (λ parsed. bytes.now ≡ front parsed.version parsed.region_log parsed.count parsed.words parsed.allowance) }
-        ensures version { IfOk result (λ parsed. parsed.version ≡ encoded_version bytes.now) }
-        ensures region_log { IfOk result (λ parsed. parsed.region_log ≡ encoded_region_log bytes.now) }
-        ensures count { IfOk result (λ parsed. parsed.count ≡ encoded_count bytes.now) }
-        ensures words { IfOk result (λ parsed. parsed.words ≡ encoded_words bytes.now) }
-        ensures low { IfOk result (λ parsed. 3 ≤ parsed.region_log) }
-        ensures high { IfOk result (λ parsed. parsed.region_log ≤ 20) }
-        ensures allowed { IfOk result (λ parsed. parsed.region_log ≤ max_region_log parsed.version) }
-        ensures fit { IfOk result (λ parsed. parsed.allowance < 2 ^ 64) }
-        ensures counted { IfOk result (λ parsed. parsed.count < 2 ^ 32) }
+        ensures told { IfOk result (IsToldBy bytes.now) }
+        ensures allowed { IfOk result HasAllowedRegions }
         // The only fault that such a front can have is 4.
         ensures length { IfOk result (λ parsed. first_some (front_faults bytes.now)
             ≡ option_map (λ cause. Fault.Length) (first_length_cause bytes.now)) }
@@ -113,7 +100,7 @@ impl Front {
 
     /// Encodes the front.
     pub(crate) fn to_bytes(self) -> [u8; FRONT_BYTES]
-        ensures { result ≡ front self.version self.region_log self.count self.words self.allowance }
+        ensures { result ≡ bytes_of self }
     {
         let mut bytes = [0; FRONT_BYTES];
         bytes[..8].copy_from_slice(&self.version.magic());
@@ -127,14 +114,10 @@ impl Front {
     /// The first condition of fault 4 that holds, if one does.
     #[tactic(auto, using(crate::proofs::Lemmas::Parts::place_by_mask))]
     pub(crate) fn length_cause(&self) -> Option<LengthCause>
-        requires low { 3 ≤ self.now.region_log }
-        requires high { self.now.region_log ≤ 20 }
-        requires allowed { self.now.region_log ≤ max_region_log self.now.version }
+        requires { HasAllowedRegions self.now }
         ensures first { result ≡ first_some (length_causes self.now.version self.now.region_log self.now.count self.now.words) }
-        ensures none { IfNone result
-            (IsWithinLimits self.now.region_log self.now.words self.now.count) }
-        ensures allowed { IfNone result
-            (Allows self.now.version self.now.region_log self.now.words) }
+        ensures limits { IfNone result (IsWithinLimits self.now.region_log self.now.words self.now.count) }
+        ensures allowed { IfNone result (Allows self.now.version self.now.region_log self.now.words) }
     {
         let max_words = self.version.max_words();
         let max_regions = self.version.max_regions();

@@ -1,18 +1,17 @@
 //! Reads an image from a device: first its front, then its body, then the check of its live objects.
-ghost use Rattle.heap_image.specs.ImageText.{text, listed_text, front, front_faults, first_object_fault, first_some};
-ghost use Rattle.heap_image.specs.Reading.{HasFittingNumbers, IsFound, numbers_of};
-ghost use Rattle.heap_image.specs.Refusals.{IsReason, IsOfReading, LeavesRest};
+ghost use Rattle.heap_image.specs.Checks.{Reports};
+ghost use Rattle.heap_image.specs.Front.{Fits, bytes_of};
+ghost use Rattle.heap_image.specs.ImageText.{first_object_fault};
+ghost use Rattle.heap_image.specs.Reading.{IsBodyOf, IsFound, IsRead, objects_of, text_of};
+ghost use Rattle.heap_image.specs.Refusals.{IsRefusal};
 ghost use Rattle.image_streams.specs.Body.{IsBody, body_words, IsOfBody};
 ghost use Rattle.image_streams.specs.Device.{is_io};
 ghost use Rattle.image_streams.specs.Incoming.{IsInRange, FallsShort, expected, known_rest};
-ghost use Rattle.image_streams.specs.Numbers.{numbers};
 ghost use Rattle.image_streams.specs.RegionSource.{HasRegions};
-ghost use Rattle.object_heap.specs.HeapImage.{FormHeap, IsValid, IsWithinLimits, AreBlocks, image_of};
+ghost use Rattle.object_heap.specs.HeapImage.{FormHeap, IsWithinLimits, image_of};
 ghost use Rattle.object_heap.specs.Sizes.{AreSizes};
-ghost use Rattle.object_heap.specs.Version.{Allows};
-ghost use Rattle.std.specs.Io.KnownBytes.{Consumes, IsAtEnd};
-ghost use Rattle.std.specs.List.{concat};
-ghost use Rattle.std.specs.Prelude.{◌≡◌, ◌≢◌, ◌<◌, ◌≤◌, ◌+◌, ◌*◌, ◌++◌, ◌⊎◌, ◌↔◌, ◌||◌, ◌^◌, ℕ, List, All, Option, Some, None, [], false, length, IfOk, OnOk, IfErr, IfSome, IsErrOf, IsTrue, option_map};
+ghost use Rattle.std.specs.Io.KnownBytes.{Consumes};
+ghost use Rattle.std.specs.Prelude.{◌≡◌, ◌≢◌, ◌<◌, ◌≤◌, ◌+◌, ◌*◌, ◌⊎◌, ◌||◌, ℕ, List, Option, Some, None, [], false, length, IfOk, IfErr, IfSome, IsTrue};
 
 use super::front::{FRONT_BYTES, Front};
 use crate::check::unchecked::{Found, find_live_objects};
@@ -33,22 +32,8 @@ use std::thread::Threads;
 /// the body. Memory is allocated only once the first byte after the front has arrived. Fault 13 comes when the device
 /// fails, which is not asked again. After a fault the bytes read so far are lost.
 pub fn read_image<R: Intake>(alloc: Global, reader: &mut R) -> Result<Image, Fault>
-    ensures valid { IfOk result (λ image. IsValid image) }
-    // The whole input is the text of the image.
-    ensures text { IfOk result
-        (λ image. Consumes (R.left reader.old) (R.left reader.new) (text image)) }
-    ensures end { OnOk result (IsAtEnd (R.left reader.new)) }
-    // Memory ran out, the device failed, or this is the first fault of the input.
-    ensures fault { IfErr result
-        (λ fault. IfSome (R.left reader.old) (λ input. IsReason input fault)) }
-    // This holds even if the input is not known.
-    ensures kind { IfErr result IsOfReading }
-    ensures left { IfErr result (λ fault. IfSome (R.left reader.old)
-        (λ input. LeavesRest fault input (R.left reader.new))) }
-    // Memory is allocated only once a byte after a front without fault has arrived.
-    ensures memory { IfErr result
-        (λ fault. fault ≡ Fault.Memory → IfSome (R.left reader.old)
-        (λ input. (32 < length input) × (first_some (front_faults input) ≡ None))) }
+    ensures read { IfOk result (λ image. IsRead image (R.left reader.old) (R.left reader.new)) }
+    ensures refused { IfErr result (IsRefusal (R.left reader.old) (R.left reader.new)) }
     ensures io { R.has_failed reader.new ≡ is_io result }
 {
     let read = read_unchecked(alloc, reader, &Alone)?;
@@ -64,22 +49,8 @@ pub fn read_image_by_threads<R: Intake>(
     reader: &mut R,
     threads: &(impl Threads + Sync),
 ) -> Result<Image, Fault>
-    ensures valid { IfOk result (λ image. IsValid image) }
-    // The whole input is the text of the image.
-    ensures text { IfOk result
-        (λ image. Consumes (R.left reader.old) (R.left reader.new) (text image)) }
-    ensures end { OnOk result (IsAtEnd (R.left reader.new)) }
-    // Memory ran out, the device failed, or this is the first fault of the input.
-    ensures fault { IfErr result
-        (λ fault. IfSome (R.left reader.old) (λ input. IsReason input fault)) }
-    // This holds even if the input is not known.
-    ensures kind { IfErr result IsOfReading }
-    ensures left { IfErr result (λ fault. IfSome (R.left reader.old)
-        (λ input. LeavesRest fault input (R.left reader.new))) }
-    // Memory is allocated only once a byte after a front without fault has arrived.
-    ensures memory { IfErr result
-        (λ fault. fault ≡ Fault.Memory → IfSome (R.left reader.old)
-        (λ input. (32 < length input) × (first_some (front_faults input) ≡ None))) }
+    ensures read { IfOk result (λ image. IsRead image (R.left reader.old) (R.left reader.new)) }
+    ensures refused { IfErr result (IsRefusal (R.left reader.old) (R.left reader.new)) }
     ensures io { R.has_failed reader.new ≡ is_io result }
 {
     read_image_by_workers(alloc, reader, current_num_threads(threads), threads)
@@ -93,22 +64,8 @@ pub fn read_image_by_workers<R: Intake>(
     workers: usize,
     threads: &(impl Threads + Sync),
 ) -> Result<Image, Fault>
-    ensures valid { IfOk result (λ image. IsValid image) }
-    // The whole input is the text of the image.
-    ensures text { IfOk result
-        (λ image. Consumes (R.left reader.old) (R.left reader.new) (text image)) }
-    ensures end { OnOk result (IsAtEnd (R.left reader.new)) }
-    // Memory ran out, the device failed, or this is the first fault of the input.
-    ensures fault { IfErr result
-        (λ fault. IfSome (R.left reader.old) (λ input. IsReason input fault)) }
-    // This holds even if the input is not known.
-    ensures kind { IfErr result IsOfReading }
-    ensures left { IfErr result (λ fault. IfSome (R.left reader.old)
-        (λ input. LeavesRest fault input (R.left reader.new))) }
-    // Memory is allocated only once a byte after a front without fault has arrived.
-    ensures memory { IfErr result
-        (λ fault. fault ≡ Fault.Memory → IfSome (R.left reader.old)
-        (λ input. (32 < length input) × (first_some (front_faults input) ≡ None))) }
+    ensures read { IfOk result (λ image. IsRead image (R.left reader.old) (R.left reader.new)) }
+    ensures refused { IfErr result (IsRefusal (R.left reader.old) (R.left reader.new)) }
     ensures io { R.has_failed reader.new ≡ is_io result }
 {
     let crowd = Crowd {
@@ -136,19 +93,9 @@ fn read_unchecked<R: Intake, M: Marker>(
     marker: &M,
 ) -> Result<Unchecked, Fault>
     requires { M.may_start }
-    ensures fits { IfOk result (λ read. HasFittingNumbers read.front.version (numbers_of read)) }
-    ensures blocks { IfOk result (λ read. AreBlocks read.front.region_log read.regions.items) }
-    ensures text { IfOk result
-        (λ read. Consumes (R.left reader.old) (R.left reader.new) (listed_text read.front.version (numbers_of read))) }
+    ensures text { IfOk result (λ read. Consumes (R.left reader.old) (R.left reader.new) (text_of read)) }
     ensures found { IfOk result IsFound }
-    ensures fault { IfErr result
-        (λ fault. IfSome (R.left reader.old) (λ input. IsReason input fault)) }
-    ensures kind { IfErr result IsOfReading }
-    ensures left { IfErr result (λ fault. IfSome (R.left reader.old)
-        (λ input. LeavesRest fault input (R.left reader.new))) }
-    ensures memory { IfErr result
-        (λ fault. fault ≡ Fault.Memory → IfSome (R.left reader.old)
-        (λ input. (32 < length input) × (first_some (front_faults input) ≡ None))) }
+    ensures refused { IfErr result (IsRefusal (R.left reader.old) (R.left reader.new)) }
     ensures io { R.has_failed reader.new ≡ is_io result }
 {
     let front = read_front(reader)?;
@@ -176,10 +123,8 @@ impl Unchecked {
         requires marker { M.may_start }
         requires heap { FormHeap self.now.front.region_log self.now.regions.items }
         requires found { IsFound self.now }
-        ensures sound { IfSome result
-            (λ _. first_object_fault (image_of self.now.front.region_log 0 self.now.regions.items self.now.found.live.items) ≡ None) }
-        ensures sizes { IfSome result
-            (λ sizes. AreSizes (image_of self.now.front.region_log 0 self.now.regions.items self.now.found.live.items) sizes.items) }
+        ensures sound { IfSome result (λ _. first_object_fault (objects_of self.now) ≡ None) }
+        ensures sizes { IfSome result (λ sizes. AreSizes (objects_of self.now) sizes.items) }
     {
         self.found.sizes_if_sound(alloc, &self.heap(), marker)
     }
@@ -188,12 +133,8 @@ impl Unchecked {
     fn check(&self, are_sound: bool) -> Result<(), Fault>
         requires heap { FormHeap self.now.front.region_log self.now.regions.items }
         requires found { IsFound self.now }
-        requires sound { IsTrue are_sound
-            → first_object_fault (image_of self.now.front.region_log 0 self.now.regions.items self.now.found.live.items) ≡ None }
-        ensures ok { OnOk result
-            (first_object_fault (image_of self.now.front.region_log 0 self.now.regions.items self.now.found.live.items) ≡ None) }
-        ensures why { IfErr result
-            (λ fault. first_object_fault (image_of self.now.front.region_log 0 self.now.regions.items self.now.found.live.items) ≡ Some fault) }
+        requires sound { IsTrue are_sound → first_object_fault (objects_of self.now) ≡ None }
+        ensures { Reports result (first_object_fault (objects_of self.now)) }
     {
         if are_sound {
             return Ok(());
@@ -211,25 +152,14 @@ impl Unchecked {
         checked: Result<(), Fault>,
         sizes: Option<Vec<[u32; PIECE]>>,
     ) -> Result<Image, Fault>
-        requires fits { HasFittingNumbers self.front.version (numbers_of self) }
-        requires blocks { AreBlocks self.front.region_log self.regions.items }
         requires found { IsFound self }
-        requires ok { OnOk checked
-            (first_object_fault (image_of self.front.region_log 0 self.regions.items self.found.live.items) ≡ None) }
-        requires why { IfErr checked
-            (λ fault. first_object_fault (image_of self.front.region_log 0 self.regions.items self.found.live.items) ≡ Some fault) }
-        requires sizes { IfSome sizes
-            (λ sizes. AreSizes (image_of self.front.region_log 0 self.regions.items self.found.live.items) sizes.items) }
+        requires checked { Reports checked (first_object_fault (objects_of self)) }
+        requires sizes { IfSome sizes (λ sizes. AreSizes (objects_of self) sizes.items) }
         requires works { R.has_failed reader.old ≡ false }
-        ensures valid { IfOk result (λ image. IsValid image) }
-        ensures text { (before : Option (List ℕ)) → Consumes before (R.left reader.old) (listed_text self.front.version (numbers_of self))
-            → IfOk result (λ image. Consumes before (R.left reader.new) (text image)) }
-        ensures end { OnOk result (IsAtEnd (R.left reader.new)) }
-        ensures fault { (before : Option (List ℕ)) → Consumes before (R.left reader.old) (listed_text self.front.version (numbers_of self))
-            → IfErr result (λ fault. IfSome before (λ input. IsReason input fault)) }
-        ensures kind { IfErr result IsOfReading }
-        ensures left { (before : Option (List ℕ)) → Consumes before (R.left reader.old) (listed_text self.front.version (numbers_of self))
-            → IfErr result (λ fault. IfSome before (λ input. LeavesRest fault input (R.left reader.new))) }
+        ensures read { (before : Option (List ℕ)) → Consumes before (R.left reader.old) (text_of self)
+            → IfOk result (λ image. IsRead image before (R.left reader.new)) }
+        ensures refused { (before : Option (List ℕ)) → Consumes before (R.left reader.old) (text_of self)
+            → IfErr result (IsRefusal before (R.left reader.new)) }
         ensures memory { IfErr result (λ fault. fault ≢ Fault.Memory) }
         ensures io { R.has_failed reader.new ≡ is_io result }
     {
@@ -257,19 +187,9 @@ impl Unchecked {
 
 /// Reads the first 32 bytes, and no byte after them.
 fn read_front<R: Intake>(reader: &mut R) -> Result<Front, Fault>
-    ensures bytes { IfOk result
-        (λ parsed. Consumes (R.left reader.old) (R.left reader.new)
-        (front parsed.version parsed.region_log parsed.count parsed.words parsed.allowance)) }
-    ensures limits { IfOk result
-        (λ parsed. IsWithinLimits parsed.region_log parsed.words parsed.count) }
-    ensures allowed { IfOk result (λ parsed. Allows parsed.version parsed.region_log parsed.words) }
-    ensures fit { IfOk result (λ parsed. parsed.allowance < 2 ^ 64) }
-    ensures counted { IfOk result (λ parsed. parsed.count < 2 ^ 32) }
-    ensures fault { IfErr result
-        (λ fault. IfSome (R.left reader.old) (λ input. IsReason input fault)) }
-    ensures left { IfErr result (λ fault. IfSome (R.left reader.old)
-        (λ input. LeavesRest fault input (R.left reader.new))) }
-    ensures kind { IfErr result IsOfReading }
+    ensures bytes { IfOk result (λ parsed. Consumes (R.left reader.old) (R.left reader.new) (bytes_of parsed)) }
+    ensures fits { IfOk result Fits }
+    ensures refused { IfErr result (IsRefusal (R.left reader.old) (R.left reader.new)) }
     ensures memory { IfErr result (λ fault. fault ≢ Fault.Memory) }
     ensures failed { R.has_failed reader.new ≡ is_io result }
 {
@@ -284,14 +204,7 @@ fn read_front<R: Intake>(reader: &mut R) -> Result<Front, Fault>
 /// order.
 fn read_body<R: Intake>(alloc: Global, reader: &mut R, front: Front) -> Result<Body, Fault>
     requires { IsWithinLimits front.region_log front.words front.count }
-    ensures bytes { IfOk result
-        (λ body. Consumes (R.left reader.old) (R.left reader.new)
-        (numbers (concat body.regions.items) ++ numbers body.tail.items)) }
-    ensures regions { IfOk result (λ body. AreBlocks front.region_log body.regions.items) }
-    ensures fit { IfOk result (λ body. All (λ w. w < 2 ^ 64) (concat body.regions.items)) }
-    ensures words { IfOk result (λ body. length (concat body.regions.items) ≡ front.words) }
-    ensures tail { IfOk result (λ body. length body.tail.items ≡ front.count) }
-    ensures tail_fit { IfOk result (λ body. All (λ a. a < 2 ^ 64) body.tail.items) }
+    ensures body { IfOk result (IsBodyOf front (R.left reader.old) (R.left reader.new)) }
     ensures truncated { result ≡ Err Fault.TruncatedBody → FallsShort
         (R.left reader.old) (R.left reader.new) (front.words + front.count) }
     ensures memory { result ≡ Err Fault.Memory

@@ -1,11 +1,11 @@
 //! Finds the live objects of a heap with roots.
-ghost use Rattle.std.specs.Prelude.{◌≡◌, ◌<◌, ◌≤◌, ◌^◌, ◌⊎◌, Some, None, [], All, length, find, nat_lt, slice_index, IfOk, OnOk, IfErr, IsTrue};
+ghost use Rattle.std.specs.Prelude.{◌≡◌, ◌<◌, ◌≤◌, ◌^◌, None, [], All, length, find, nat_lt, slice_index, IfOk, OnOk, IfErr, IsTrue};
 ghost use Rattle.std.specs.List.{concat, range_with_len};
 ghost use Rattle.object_heap.specs.declared.version.Version.TheVariants.{Two};
 ghost use Rattle.object_heap.specs.HeapImage.{FormHeap, HasLiveList, heap_words, image_of, reachable, with_live};
+ghost use Rattle.heap_image.specs.Checks.{AreSeen, IsMemoryOr, MayReport};
 ghost use Rattle.heap_image.specs.ImageText.{first_some, from_tail, live_list_faults};
 ghost use Rattle.object_heap.specs.ObjectFaults.{misplaced_root};
-ghost use Rattle.object_heap.specs.Bits.{MarkBegins};
 ghost use Rattle.live_objects.specs.Soundness.{AreWellFormed};
 
 use crate::Fault;
@@ -33,10 +33,8 @@ pub fn mark_from_roots(
     requires heap { FormHeap region_log regions.now }
     requires few { length roots.now ≤ length (concat regions.now) }
     ensures live { IfOk result (λ live. live.items ≡ reachable (image_of region_log 0 regions.now []) roots.now) }
-    ensures ok { let faults = live_list_faults (from_tail Two (image_of region_log 0 regions.now roots.now)) in
-        OnOk result (first_some faults ≡ None) }
-    ensures fault { let faults = live_list_faults (from_tail Two (image_of region_log 0 regions.now roots.now)) in
-        IfErr result (λ fault. (fault ≡ Fault.Memory) ⊎ (first_some faults ≡ Some fault)) }
+    ensures faults { let faults = live_list_faults (from_tail Two (image_of region_log 0 regions.now roots.now)) in
+        MayReport result (first_some faults) }
 {
     let heap = Heap::new(regions, region_log);
     find_and_check(alloc, &heap, roots, &Alone)
@@ -55,10 +53,8 @@ pub fn mark_from_roots_by_workers(
     requires heap { FormHeap region_log regions.now }
     requires few { length roots.now ≤ length (concat regions.now) }
     ensures live { IfOk result (λ live. live.items ≡ reachable (image_of region_log 0 regions.now []) roots.now) }
-    ensures ok { let faults = live_list_faults (from_tail Two (image_of region_log 0 regions.now roots.now)) in
-        OnOk result (first_some faults ≡ None) }
-    ensures fault { let faults = live_list_faults (from_tail Two (image_of region_log 0 regions.now roots.now)) in
-        IfErr result (λ fault. (fault ≡ Fault.Memory) ⊎ (first_some faults ≡ Some fault)) }
+    ensures faults { let faults = live_list_faults (from_tail Two (image_of region_log 0 regions.now roots.now)) in
+        MayReport result (first_some faults) }
 {
     let heap = Heap::new(regions, region_log);
     let crowd = Crowd {
@@ -78,9 +74,8 @@ fn find_and_check<M: Marker>(
     requires marker { M.may_start }
     requires few { length roots.now ≤ heap_words heap.now }
     ensures live { IfOk result (λ live. live.items ≡ reachable heap.now roots.now) }
-    ensures ok { OnOk result (first_some (live_list_faults (from_tail Two (with_live heap.now roots.now))) ≡ None) }
-    ensures fault { let faults = live_list_faults (from_tail Two (with_live heap.now roots.now)) in
-        IfErr result (λ fault. (fault ≡ Fault.Memory) ⊎ (first_some faults ≡ Some fault)) }
+    ensures faults { let faults = live_list_faults (from_tail Two (with_live heap.now roots.now)) in
+        MayReport result (first_some faults) }
 {
     if roots.len() > u32::MAX as usize {
         return Err(Fault::Memory);
@@ -131,14 +126,11 @@ pub(crate) fn find_reachable<M: Marker>(
     requires few { length roots.now ≤ heap_words heap.now }
     requires fits { length roots.now < 2 ^ 32 }
     ensures live { IfOk result (λ reached. reached.live.items ≡ reachable heap.now roots.now) }
-    ensures inside { IfOk result (λ reached. All (λ a. a < heap_words heap.now) reached.live.items) }
-    ensures begins { IfOk result
-        (λ reached. MarkBegins reached.live.items (heap_words heap.now) reached.begins) }
-    ensures well_formed { IfOk result
-        (λ reached. IsTrue reached.well_formed → AreWellFormed (with_live heap.now reached.live.items)) }
+    ensures seen { IfOk result
+        (λ reached. AreSeen heap.now reached.live.items reached.begins reached.well_formed) }
     ensures roots { OnOk result (misplaced_root (from_tail Two (with_live heap.now roots.now)) ≡ None) }
     ensures fault { let faults = live_list_faults (from_tail Two (with_live heap.now roots.now)) in
-        IfErr result (λ fault. (fault ≡ Fault.Memory) ⊎ (first_some faults ≡ Some fault)) }
+        IfErr result (IsMemoryOr (first_some faults)) }
 {
     reachable_is_the_least_closed();
     marks_are_listed();

@@ -10,10 +10,12 @@ use Rattle.heap_image.proofs.Lemmas.Objects.{unsound_tested, end_more, overlaps_
 use Rattle.heap_image.proofs.check.check_objects.Goals as goal
 use Rattle.heap_image.proofs.check.check_objects.Goals.{then-is_none+in-Some, then-is_none+in-None, else-is_none}
 
-pub returns-then-is_unsound-clause-fault : goal.returns-then-is_unsound-clause-fault
-returns-then-is_unsound-clause-fault c =
-    header_first c.args.heap.now c.args.live.now c.len-words.result c.loop-a.a-index c.loop-a-test.true c.len-words.ensures.value c.loop-a.invariant.sound
-    (unsound_tested c.args.heap.now c.args.live.now c.len-words.result c.loop-a.a-index c.loop-a-test.true c.len-words.ensures.value c.word-word.result c.word-word.ensures c.is_unsound.result c.is_unsound.ensures ∙ c.if-is_unsound.true)
+pub returns-then-is_unsound : goal.returns-then-is_unsound
+returns-then-is_unsound c = record {
+  ok = tt;
+  fault = header_first c.args.heap.now c.args.live.now c.len-words.result c.loop-a.a-index c.loop-a-test.true c.len-words.ensures.value c.loop-a.invariant.sound
+      (unsound_tested c.args.heap.now c.args.live.now c.len-words.result c.loop-a.a-index c.loop-a-test.true c.len-words.ensures.value c.word-word.result c.word-word.ensures c.is_unsound.result c.is_unsound.ensures ∙ c.if-is_unsound.true);
+}
 
 -- the search of one object, by the number of references in its header
 searched : (heap : HeapImage) (live : List ℕ) (a word n : ℕ) (field : Option ℕ) → word ≡ get_or heap.words a 0 → n ≡ references_of word

@@ -25,38 +25,32 @@ module _ (parts : UncheckedParts) (blocks : List (List ℕ)) (live : List ℕ) (
   valid : IsFaultlessList → HasFittingNumbers parts.version (numbers_in parts) → first_some (live_list_faults (from_tail parts.version (image_of parts.region_log 0 blocks parts.tail.items))) ≡ None → IsValid found
   valid faultless fits sound = subst IsValid (sym image_is) (from_tail-IsValid faultless parts.version (numbers_in parts) fits (no_fault_of_parts parts.version parts.region_log parts.allowance blocks parts.regions.items parts.tail.items same sound))
 
-fits_of : (parts : UncheckedParts) → IsWithinLimits parts.region_log (length (concat parts.regions.items)) (length parts.tail.items) → Allows parts.version parts.region_log (length (concat parts.regions.items)) → length parts.tail.items < 2 ^ 32
-    → parts.allowance < 2 ^ 64 → All (λ w. w < 2 ^ 64) (concat parts.regions.items) → All (λ w. w < 2 ^ 64) parts.tail.items → HasFittingNumbers parts.version (numbers_in parts)
-fits_of parts limits allowed counted =
-    fitting_parts parts.version parts.region_log parts.allowance parts.regions.items parts.tail.items (length (concat parts.regions.items)) (length parts.tail.items) (record { limits = limits; allowed = allowed; counted = counted }) refl refl
-
 pub with_seen-requires-clause-valid : goal.with_seen-requires-clause-valid
 with_seen-requires-clause-valid c =
-    let sized = c.in_default.ensures in
-    valid c.args.parts c.as_slice.result.now c.in-Ok.sound.found.live.items (option_map (λ v. v.items) c.in-Ok.sound.found.roots) c.as_slice.ensures.value c.in-Ok.ensures.live c.in-Ok.ensures.roots c.objects_without_faults.ensures.live_list
-    (fits_of c.args.parts sized.limits sized.allowed sized.counted sized.allowance_fits sized.words_fit sized.tail_fit) c.in-Ok.ensures.sound
+    let fits = c.in_default.ensures.fits in
+    valid c.args.parts c.as_slice.result.now c.in-Ok.sound.found.live.items (option_map (λ v. v.items) c.in-Ok.sound.found.roots) c.as_slice.ensures.value c.in-Ok.ensures.found.live c.in-Ok.ensures.found.roots c.objects_without_faults.ensures.live_list
+    fits c.in-Ok.ensures.faults.ok
 
 pub returns-in-Ok-clause-image : goal.returns-in-Ok-clause-image
 returns-in-Ok-clause-image c =
     c.with_seen.ensures
-    ∙ image_is c.args.parts c.as_slice.result.now c.in-Ok.sound.found.live.items (option_map (λ v. v.items) c.in-Ok.sound.found.roots) c.as_slice.ensures.value c.in-Ok.ensures.live c.in-Ok.ensures.roots
+    ∙ image_is c.args.parts c.as_slice.result.now c.in-Ok.sound.found.live.items (option_map (λ v. v.items) c.in-Ok.sound.found.roots) c.as_slice.ensures.value c.in-Ok.ensures.found.live c.in-Ok.ensures.found.roots
 
 pub returns-in-Ok-clause-blocks : goal.returns-in-Ok-clause-blocks
 returns-in-Ok-clause-blocks c =
     let parts = c.args.parts in
-    let sized = c.in_default.ensures in
+    let fits = c.in_default.ensures.fits in
     let live = c.in-Ok.sound.found.live.items in
     let roots = option_map (λ v. v.items) c.in-Ok.sound.found.roots in
-    let valid_found = valid parts c.as_slice.result.now live roots c.as_slice.ensures.value c.in-Ok.ensures.live c.in-Ok.ensures.roots c.objects_without_faults.ensures.live_list
-    (fits_of parts sized.limits sized.allowed sized.counted sized.allowance_fits sized.words_fit sized.tail_fit) c.in-Ok.ensures.sound in
+    let valid_found = valid parts c.as_slice.result.now live roots c.as_slice.ensures.value c.in-Ok.ensures.found.live c.in-Ok.ensures.found.roots c.objects_without_faults.ensures.live_list
+    fits c.in-Ok.ensures.faults.ok in
     blocks_are c.blocks_joined.ensures.count c.blocks_joined.ensures.parts parts.version parts.region_log parts.allowance parts.regions.items live roots (record { whole = c.requires.regions; valid = valid_found })
     ∙ ap (λ image. map (block_of image) (range_with_len 0 (region_count image))) (sym c.with_seen.ensures)
 
 pub returns-in-Err-find_sound_objects-clause-fault : goal.returns-in-Err-find_sound_objects-clause-fault
 returns-in-Err-find_sound_objects-clause-fault c =
     let parts = c.args.parts in
-    let sized = c.in_default.ensures in
+    let fits = c.in_default.ensures.fits in
     let fault = c.in-Err-find_sound_objects.fault in
-    let fits : HasFittingNumbers parts.version (numbers_in parts) = fits_of parts sized.limits sized.allowed sized.counted sized.allowance_fits sized.words_fit sized.tail_fit in
-    let told = subst (λ (blocks : List (List ℕ)). (fault ≡ Memory) ⊎ (first_some (live_list_faults (from_tail parts.version (image_of parts.region_log 0 blocks parts.tail.items))) ≡ Some fault)) c.as_slice.ensures.value c.in-Err-find_sound_objects.ensures.fault in
+    let told = subst (λ (blocks : List (List ℕ)). (fault ≡ Memory) ⊎ (first_some (live_list_faults (from_tail parts.version (image_of parts.region_log 0 blocks parts.tail.items))) ≡ Some fault)) c.as_slice.ensures.value c.in-Err-find_sound_objects.ensures.faults.fault in
     list_reason parts.version parts.region_log parts.allowance parts.regions.items parts.tail.items fits fault told

@@ -1,4 +1,4 @@
-use Rattle.std.proofs.Common.{◌≡◌, ◌<◌, ◌⊎◌, Some, refl, sym, ap, ◌∙◌, subst}
+use Rattle.std.proofs.Common.{rules, ◌≡◌, ◌<◌, ◌⊎◌, Some, refl, sym, ap, ◌∙◌, subst}
 use Rattle.std.specs.Prelude.{All}
 use Rattle.std.proofs.lemmas.Result.{err_from_is_err_and}
 use Rattle.image_streams.specs.declared.fault.Fault.TheVariants.{Memory}
@@ -13,21 +13,20 @@ use Rattle.heap_image.proofs.Lemmas.LiveOrder.{all_below}
 use Rattle.heap_image.proofs.Lemmas.Marked.{only_objects}
 use Rattle.heap_image.proofs.check.unchecked.find_live_objects.Goals as goal
 
-pub returns-then-has_roots-clause-live : goal.returns-then-has_roots-clause-live
-returns-then-has_roots-clause-live g c =
-    let heap = c.args.heap.now in
-    rooted_live c.args.version heap c.args.tail.items c.in_ok-live.field-0.live.items (sym c.has_roots.ensures ∙ c.if-has_roots.true)
-    (c.in_ok-live.ensures.live ∙ ap (reachable heap) c.as_slice.ensures.value)
-
-pub returns-then-has_roots-clause-ordered : goal.returns-then-has_roots-clause-ordered
-returns-then-has_roots-clause-ordered g c =
+pub returns-then-has_roots-clause-found : goal.returns-then-has_roots-clause-found
+returns-then-has_roots-clause-found g c =
     let heap = c.args.heap.now in
     let tail = c.args.tail.items in
     let found = c.in_ok-live.field-0.live.items in
+    let rooted = sym c.has_roots.ensures ∙ c.if-has_roots.true in
     let is = c.in_ok-live.ensures.live ∙ ap (reachable heap) c.as_slice.ensures.value in
     let none = ap (λ xs. misplaced_root (from_tail Two (with_live heap xs))) (sym c.as_slice.ensures.value) ∙ c.in_ok-live.ensures.roots in
-    ap first_some (sym (rooted_faults c.args.version (with_live heap tail) (sym c.has_roots.ensures ∙ c.if-has_roots.true)))
-    ∙ only_objects heap tail found (heap_words heap) refl none is
+    record {
+      live = rooted_live c.args.version heap tail found rooted is;
+      roots = search rules;
+      seen = c.in_ok-live.ensures.seen;
+      ordered = ap first_some (sym (rooted_faults c.args.version (with_live heap tail) rooted)) ∙ only_objects heap tail found (heap_words heap) refl none is;
+    }
 
 pub returns-in_err-live-clause-fault : goal.returns-in_err-live-clause-fault
 returns-in_err-live-clause-fault g c =
@@ -43,14 +42,19 @@ pub of-requires : goal.of-requires
 of-requires g c =
     subst (All (λ a. a < c.len-words.result)) (c.as_slice-2.ensures.value ∙ sym c.as_slice-3.ensures.value) (all_below c.len-words.result c.as_slice-2.result.now (sym c.misplaced_index.ensures ∙ c.in_default.is))
 
-pub returns-clause-inside : goal.returns-clause-inside
-returns-clause-inside g c =
-    subst (λ n. All (λ a. a < n) c.args.tail.items) c.len-words.ensures.value
-    (subst (All (λ a. a < c.len-words.result)) c.as_slice-2.ensures.value (all_below c.len-words.result c.as_slice-2.result.now (sym c.misplaced_index.ensures ∙ c.in_default.is)))
-
-pub returns-clause-begins : goal.returns-clause-begins
-returns-clause-begins g c =
+pub returns-clause-found : goal.returns-clause-found
+returns-clause-found g c =
+    let heap = c.args.heap.now in
+    let tail = c.args.tail.items in
     let words = c.len-words.result in
     let begins = c.in_ok-begins.begins in
-    subst (λ n. MarkBegins c.args.tail.items n begins) c.len-words.ensures.value
-    (subst (λ xs. MarkBegins xs words begins) c.as_slice-3.ensures.value (begins_of words c.as_slice-3.result.now begins c.in_ok-begins.ensures.room c.in_ok-begins.ensures.bits))
+    let inside = subst (λ n. All (λ a. a < n) tail) c.len-words.ensures.value
+    (subst (All (λ a. a < words)) c.as_slice-2.ensures.value (all_below words c.as_slice-2.result.now (sym c.misplaced_index.ensures ∙ c.in_default.is))) in
+    let marked = subst (λ n. MarkBegins tail n begins) c.len-words.ensures.value
+    (subst (λ xs. MarkBegins xs words begins) c.as_slice-3.ensures.value (begins_of words c.as_slice-3.result.now begins c.in_ok-begins.ensures.room c.in_ok-begins.ensures.bits)) in
+    record {
+      live = search rules;
+      roots = search rules;
+      seen = record { inside = inside; begins = marked; well_formed = search rules };
+      ordered = search rules;
+    }

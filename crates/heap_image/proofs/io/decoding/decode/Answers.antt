@@ -1,16 +1,12 @@
-use Rattle.std.proofs.Common.{inr, Some}
+use Rattle.std.proofs.Common.{Some}
 use Rattle.std.proofs.lemmas.Result.{err_from_is_err_and}
-use Rattle.heap_image.proofs.Lemmas.WholeBytes.{layout_fault_first, refused_only, decodes_only}
+use Rattle.heap_image.proofs.Lemmas.WholeBytes.{decoded_by_layout, decoded_by_reading}
 use Rattle.heap_image.proofs.io.decoding.decode.Goals as goal
 
-pub returns-in_err-layout_fault-clause-only : goal.returns-in_err-layout_fault-clause-only
-returns-in_err-layout_fault-clause-only c = λ image valid is.
-    refused_only c.args.bytes.now image c.in_err-layout_fault.field-0.0 c.from_residual.result valid is c.in_err-layout_fault.ensures.fault
-
-pub returns-in_err-layout_fault-clause-fault : goal.returns-in_err-layout_fault-clause-fault
-returns-in_err-layout_fault-clause-fault c =
+pub returns-in_err-layout_fault : goal.returns-in_err-layout_fault
+returns-in_err-layout_fault c =
     let p = err_from_is_err_and c.from_residual.result c.from_residual.ensures.1 in
-    rw (p.1, p.2) (inr (layout_fault_first c.args.bytes.now c.in_err-layout_fault.field-0.0 c.in_err-layout_fault.ensures.fault))
+    rw (p.1, p.2) (decoded_by_layout c.args.bytes.now c.in_err-layout_fault.field-0.0 c.in_err-layout_fault.ensures.first.fault c.in_err-layout_fault.ensures.memory)
 
-pub returns-clause-only : goal.returns-clause-only
-returns-clause-only c = decodes_only c.args.bytes.now c.read_image.result (Some c.read_image.new.reader.0.now) c.read_image.ensures.valid c.read_image.ensures.text c.read_image.ensures.end c.read_image.ensures.fault c.read_image.ensures.io
+pub returns : goal.returns
+returns c = decoded_by_reading c.args.bytes.now c.read_image.result (Some c.read_image.new.reader.0.now) c.read_image.ensures.read c.read_image.ensures.refused c.read_image.ensures.io c.in_ok-layout_fault.ensures.first.ok

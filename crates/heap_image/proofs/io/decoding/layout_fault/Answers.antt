@@ -3,21 +3,23 @@ use Rattle.std.proofs.lemmas.Result.{err_from_is_err_and}
 use Rattle.heap_image.proofs.Lemmas.WholeBytes.{front_fault_first, truncated_layout, layout_none}
 use Rattle.heap_image.proofs.io.decoding.layout_fault.Goals as goal
 
-pub returns-in_err-front-clause-fault : goal.returns-in_err-front-clause-fault
-returns-in_err-front-clause-fault c =
+pub returns-in_err-front-clause-first : goal.returns-in_err-front-clause-first
+returns-in_err-front-clause-first c =
     let p = err_from_is_err_and c.from_residual.result c.from_residual.ensures.1 in
-    rw (p.1, p.2) (front_fault_first c.args.bytes.now c.if-bytes-lt-FRONT_BYTES.false c.in_err-front.field-0.0 c.in_err-front.ensures.fault)
+    rw (p.1, p.2) (record { ok = tt; fault = front_fault_first c.args.bytes.now c.if-bytes-lt-FRONT_BYTES.false c.in_err-front.field-0.0 c.in_err-front.ensures.fault })
 
-pub returns-then-bytes-text_len-clause-fault : goal.returns-then-bytes-text_len-clause-fault
-returns-then-bytes-text_len-clause-fault c =
+pub returns-then-bytes-text_len-clause-first : goal.returns-then-bytes-text_len-clause-first
+returns-then-bytes-text_len-clause-first c =
     let front = c.in_ok-front.front in
+    let told = c.in_ok-front.ensures in
     let long = c.text_len.ensures in
     let short = c.if-bytes-text_len.true in
-    truncated_layout c.args.bytes.now front.version front.region_log front.count front.words front.allowance (record { limits = c.in_ok-front.ensures.limits; allowed = c.in_ok-front.ensures.allowed; counted = c.in_ok-front.ensures.counted }) c.in_ok-front.ensures.bytes c.if-bytes-lt-FRONT_BYTES.false (omega arith)
+    record { ok = tt; fault = truncated_layout c.args.bytes.now front.version front.region_log front.count front.words front.allowance told.fits.sizes told.bytes c.if-bytes-lt-FRONT_BYTES.false (omega arith) }
 
-pub returns-clause-ok : goal.returns-clause-ok
-returns-clause-ok c =
+pub returns-clause-first : goal.returns-clause-first
+returns-clause-first c =
     let front = c.in_ok-front.front in
+    let told = c.in_ok-front.ensures in
     let long = c.text_len.ensures in
     let enough = c.if-bytes-text_len.false in
-    layout_none c.args.bytes.now front.version front.region_log front.count front.words front.allowance (record { limits = c.in_ok-front.ensures.limits; allowed = c.in_ok-front.ensures.allowed; counted = c.in_ok-front.ensures.counted }) c.in_ok-front.ensures.bytes (omega arith)
+    record { ok = layout_none c.args.bytes.now front.version front.region_log front.count front.words front.allowance told.fits.sizes told.bytes (omega arith); fault = tt }

@@ -1,19 +1,34 @@
-use Rattle.std.proofs.Common.{◌≡◌, ◌*◌, ◌^◌, length, ap, ◌∙◌}
+use Rattle.std.proofs.Common.{◌≡◌, ℕ, ◌*◌, ◌^◌, List, Option, length, ap, subst, ◌∙◌}
 use Rattle.std.proofs.lemmas.Result.{IfOk-weaker}
-use Rattle.std.specs.List.{concat}
+use Rattle.std.specs.Prelude.{All}
 use Rattle.image_streams.specs.Body.{IsBody}
+use Rattle.image_streams.specs.declared.body.Body.{Body}
+use Rattle.image_streams.specs.declared.body_size.BodySize.{BodySize}
+use Rattle.heap_image.specs.Reading.{IsBodyOf}
+use Rattle.heap_image.specs.declared.io.front.Front.{Front}
 use Rattle.heap_image.proofs.Lemmas.Bodies.{length-blocks}
 use Rattle.heap_image.proofs.io.read.read_body.Goals as goal
 
-pub returns-in-Some-clause-words : goal.returns-in-Some-clause-words
-returns-in-Some-clause-words g c =
-    let size = c.body_size-size.result in
-    let body = c.in-Some.ensures.taken in
-    length-blocks size.region_log size.regions c.in-Some.body.regions.items body.regions body.count ∙ ap (λ log. size.regions * 2 ^ log) c.body_size-size.ensures.region_log ∙ c.body_size-size.ensures.regions
+body_of : (front : Front) (size : BodySize) (before after : Option (List ℕ)) (body : Body) → size.region_log ≡ front.region_log → size.regions * 2 ^ front.region_log ≡ front.words → size.numbers ≡ front.count → IsBody size before after body → IsBodyOf front before after body
+body_of front size before after body log words count is = record {
+  bytes = is.bytes;
+  regions = subst (λ l. All (λ block. length block ≡ 2 ^ l) body.regions.items) log is.regions;
+  fit = is.fit;
+  words = length-blocks size.region_log size.regions body.regions.items is.regions is.count ∙ ap (λ l. size.regions * 2 ^ l) log ∙ words;
+  tail = is.tail ∙ count;
+  tail_fit = is.tail_fit;
+}
 
-pub returns-in-None-clause-words : goal.returns-in-None-clause-words
-returns-in-None-clause-words g c =
-    let size = c.body_size-size.result in
-    let before = g.R.Intake.left c.take_body.new.self in
+pub returns-in-Some-clause-body : goal.returns-in-Some-clause-body
+returns-in-Some-clause-body g c =
+    let size = c.body_size-size in
+    body_of c.args.front size.result _ _ c.in-Some.body size.ensures.region_log size.ensures.regions size.ensures.numbers c.in-Some.ensures.taken
+
+pub returns-in-None-clause-body : goal.returns-in-None-clause-body
+returns-in-None-clause-body g c =
+    let size = c.body_size-size in
+    let before = g.R.Intake.left c.args.reader.now in
+    let middle = g.R.Intake.left c.take_body.new.self in
     let after = g.R.Intake.left c.read_body_in_order.new.reader in
-    IfOk-weaker c.read_body_in_order.result (IsBody size before after) (λ body. length (concat body.regions.items) ≡ c.args.front.words) (λ body is. length-blocks size.region_log size.regions body.regions.items is.regions is.count ∙ ap (λ log. size.regions * 2 ^ log) c.body_size-size.ensures.region_log ∙ c.body_size-size.ensures.regions) c.read_body_in_order.ensures.body
+    let same : middle ≡ before = c.take_body.ensures.none c.in-None.is in
+    IfOk-weaker c.read_body_in_order.result (IsBody size.result middle after) (IsBodyOf c.args.front before after) (λ body is. body_of c.args.front size.result before after body size.ensures.region_log size.ensures.regions size.ensures.numbers (subst (λ left. IsBody size.result left after body) same is)) c.read_body_in_order.ensures.body

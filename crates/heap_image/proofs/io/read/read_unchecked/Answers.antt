@@ -1,92 +1,67 @@
-use Rattle.std.proofs.Common.{◌≡◌, ◌<◌, ◌⊎◌, [], ap, sym, subst, ◌∙◌, Some, Err}
+use Rattle.std.proofs.Common.{◌≡◌, ◌<◌, ◌⊎◌, ℕ, List, [], ap, sym, subst, ◌∙◌, Option, Some, Err}
 use Rattle.std.proofs.lemmas.Result.{err_from_is_err_and}
 use Rattle.std.specs.Prelude.{All, option_map}
 use Rattle.std.specs.Io.KnownBytes.{Consumes}
-use Rattle.object_heap.specs.Bits.{MarkBegins}
-use Rattle.live_objects.specs.Soundness.{AreWellFormed}
 use Rattle.object_heap.specs.HeapImage.{HeapImage, heap_words, image_of, with_live}
+use Rattle.image_streams.specs.declared.body.Body.{Body}
 use Rattle.image_streams.specs.declared.fault.Fault.TheVariants.{Memory}
+use Rattle.heap_image.specs.Checks.{AreSeen}
+use Rattle.heap_image.specs.Front.{Fits, bytes_of}
 use Rattle.heap_image.specs.ImageText.{listed_text, from_tail, first_some, first_object_fault, live_list_faults}
-use Rattle.heap_image.specs.Reading.{HasFittingNumbers}
+use Rattle.heap_image.specs.Reading.{HasFittingNumbers, IsBodyOf}
+use Rattle.heap_image.specs.declared.io.front.Front.{Front}
 use Rattle.heap_image.specs.declared.io.read.Unchecked.{Unchecked}
 use Rattle.heap_image.proofs.Lemmas.Refusing.{fitting_parts, read_parts, body_leaves, body_reason, body_kind, check_reason, check_leaves, check_of_parts, search_kind, memory_behind_front, more_than_front, faults_same, live_same, roots_same, tail_is}
 use Rattle.heap_image.proofs.io.read.read_unchecked.Goals as goal
 
-pub returns-in_err-regions-clause-fault : goal.returns-in_err-regions-clause-fault
-returns-in_err-regions-clause-fault g c =
+-- the numbers of a front and the body behind it
+abbrev numbers_behind : Front → Body → HeapImage
+numbers_behind front body = image_of front.region_log front.allowance body.regions.items body.tail.items
+
+behind_fits : (front : Front) (body : Body) (before after : Option (List ℕ)) → Fits front → IsBodyOf front before after body → HasFittingNumbers front.version (numbers_behind front body)
+behind_fits front body before after fits is = fitting_parts front.version front.region_log front.allowance body.regions.items body.tail.items front.words front.count fits.sizes is.words is.tail fits.allowance is.fit is.tail_fit
+
+behind_read : (front : Front) (body : Body) (before middle after : Option (List ℕ)) → Consumes before middle (bytes_of front) → IsBodyOf front middle after body → Consumes before after (listed_text front.version (numbers_behind front body))
+behind_read front body before middle after bytes is = read_parts front.version front.region_log front.allowance body.regions.items body.tail.items front.words front.count is.words is.tail before middle after bytes is.bytes
+
+pub returns-in_err-regions-clause-refused : goal.returns-in_err-regions-clause-refused
+returns-in_err-regions-clause-refused g c =
     let p = err_from_is_err_and c.from_residual-in_err-regions.result c.from_residual-in_err-regions.ensures.1 in
     let front = c.in_ok-front.front in
     let fault = c.in_err-regions.field-0.0 in
-    rw (p.1, p.2) (body_reason front.version fault front.region_log front.count front.words front.allowance (record { limits = c.in_ok-front.ensures.limits; allowed = c.in_ok-front.ensures.allowed; counted = c.in_ok-front.ensures.counted }) (g.R.Intake.left c.args.reader.now) (g.R.Intake.left c.read_front.new.reader) c.in_ok-front.ensures.bytes c.in_err-regions.ensures.fault (λ e. (c.in_err-regions.ensures.truncated (ap Err e)).1))
+    let before = g.R.Intake.left c.args.reader.now in
+    let middle = g.R.Intake.left c.read_front.new.reader in
+    let sizes = c.in_ok-front.ensures.fits.sizes in
+    let bytes = c.in_ok-front.ensures.bytes in
+    let why = c.in_err-regions.ensures in
+    rw (p.1, p.2) (record {
+      kind = body_kind fault why.fault;
+      reason = body_reason front.version fault front.region_log front.count front.words front.allowance sizes before middle bytes why.fault (λ e. (why.truncated (ap Err e)).1);
+      left = body_leaves fault before middle (g.R.Intake.left c.read_body.new.reader) _ c.read_body.ensures.lost.0 bytes c.read_body.ensures.lost.1 why.fault (λ e. (why.truncated (ap Err e)).0);
+      memory = λ e. memory_behind_front front.version front.region_log front.count front.words front.allowance sizes before middle bytes (why.memory (ap Err e));
+    })
 
-pub returns-in_err-regions-clause-kind : goal.returns-in_err-regions-clause-kind
-returns-in_err-regions-clause-kind g c =
-    let p = err_from_is_err_and c.from_residual-in_err-regions.result c.from_residual-in_err-regions.ensures.1 in
-    rw (p.1, p.2) (body_kind c.in_err-regions.field-0.0 c.in_err-regions.ensures.fault)
-
-pub returns-in_err-regions-clause-left : goal.returns-in_err-regions-clause-left
-returns-in_err-regions-clause-left g c =
-    let p = err_from_is_err_and c.from_residual-in_err-regions.result c.from_residual-in_err-regions.ensures.1 in
-    let fault = c.in_err-regions.field-0.0 in
-    rw (p.1, p.2) (body_leaves fault (g.R.Intake.left c.args.reader.now) (g.R.Intake.left c.read_front.new.reader) (g.R.Intake.left c.read_body.new.reader) _ c.read_body.ensures.lost.0 c.in_ok-front.ensures.bytes c.read_body.ensures.lost.1 c.in_err-regions.ensures.fault (λ e. (c.in_err-regions.ensures.truncated (ap Err e)).0))
-
-pub returns-in_err-regions-clause-memory : goal.returns-in_err-regions-clause-memory
-returns-in_err-regions-clause-memory g c =
-    let p = err_from_is_err_and c.from_residual-in_err-regions.result c.from_residual-in_err-regions.ensures.1 in
-    let front = c.in_ok-front.front in
-    rw (p.1, p.2) (λ e. memory_behind_front front.version front.region_log front.count front.words front.allowance (record { limits = c.in_ok-front.ensures.limits; allowed = c.in_ok-front.ensures.allowed; counted = c.in_ok-front.ensures.counted }) (g.R.Intake.left c.args.reader.now) (g.R.Intake.left c.read_front.new.reader) c.in_ok-front.ensures.bytes (c.in_err-regions.ensures.memory (ap Err e)))
-
-pub returns-in_err-found-clause-fault : goal.returns-in_err-found-clause-fault
-returns-in_err-found-clause-fault g c =
+pub returns-in_err-found-clause-refused : goal.returns-in_err-found-clause-refused
+returns-in_err-found-clause-refused g c =
     let p = err_from_is_err_and c.from_residual-in_err-found.result c.from_residual-in_err-found.ensures.1 in
     let front = c.in_ok-front.front in
     let body = c.in_ok-regions.field-0 in
-    let image : HeapImage = image_of front.region_log front.allowance body.regions.items body.tail.items in
+    let image : HeapImage = numbers_behind front body in
     let before = g.R.Intake.left c.args.reader.now in
+    let middle = g.R.Intake.left c.read_front.new.reader in
     let after = g.R.Intake.left c.read_body.new.reader in
-    let done = c.in_ok-regions.ensures in
-    let fits : HasFittingNumbers front.version image = fitting_parts front.version front.region_log front.allowance body.regions.items body.tail.items front.words front.count (record { limits = c.in_ok-front.ensures.limits; allowed = c.in_ok-front.ensures.allowed; counted = c.in_ok-front.ensures.counted }) done.words done.tail c.in_ok-front.ensures.fit done.fit done.tail_fit in
-    let read : Consumes before after (listed_text front.version image) = read_parts front.version front.region_log front.allowance body.regions.items body.tail.items front.words front.count done.words done.tail before (g.R.Intake.left c.read_front.new.reader) after c.in_ok-front.ensures.bytes done.bytes in
+    let done = c.in_ok-regions.ensures.body in
+    let fits = behind_fits front body middle after c.in_ok-front.ensures.fits done in
+    let read = behind_read front body before middle after c.in_ok-front.ensures.bytes done in
     let fault = c.in_err-found.field-0.0 in
     let told = subst (λ (heap : HeapImage). (fault ≡ Memory) ⊎ (first_some (live_list_faults (from_tail front.version (with_live heap body.tail.items))) ≡ Some fault)) c.new-heap.ensures c.in_err-found.ensures.fault in
     let why = check_of_parts front.version front.region_log front.allowance c.as_slice.result.now body.regions.items body.tail.items c.as_slice.ensures.value fault told in
-    rw (p.1, p.2) (check_reason front.version image fits before after read fault why)
-
-pub returns-in_err-found-clause-kind : goal.returns-in_err-found-clause-kind
-returns-in_err-found-clause-kind g c =
-    let front = c.in_ok-front.front in
-    let tail = c.in_ok-regions.field-0.tail.items in
-    let p = err_from_is_err_and c.from_residual-in_err-found.result c.from_residual-in_err-found.ensures.1 in
-    rw (p.1, p.2) (search_kind (from_tail front.version (with_live c.new-heap.result tail)) c.in_err-found.field-0.0 c.in_err-found.ensures.fault).0
-
-pub returns-in_err-found-clause-left : goal.returns-in_err-found-clause-left
-returns-in_err-found-clause-left g c =
-    let p = err_from_is_err_and c.from_residual-in_err-found.result c.from_residual-in_err-found.ensures.1 in
-    let front = c.in_ok-front.front in
-    let body = c.in_ok-regions.field-0 in
-    let image : HeapImage = image_of front.region_log front.allowance body.regions.items body.tail.items in
-    let before = g.R.Intake.left c.args.reader.now in
-    let after = g.R.Intake.left c.read_body.new.reader in
-    let done = c.in_ok-regions.ensures in
-    let fits : HasFittingNumbers front.version image = fitting_parts front.version front.region_log front.allowance body.regions.items body.tail.items front.words front.count (record { limits = c.in_ok-front.ensures.limits; allowed = c.in_ok-front.ensures.allowed; counted = c.in_ok-front.ensures.counted }) done.words done.tail c.in_ok-front.ensures.fit done.fit done.tail_fit in
-    let read : Consumes before after (listed_text front.version image) = read_parts front.version front.region_log front.allowance body.regions.items body.tail.items front.words front.count done.words done.tail before (g.R.Intake.left c.read_front.new.reader) after c.in_ok-front.ensures.bytes done.bytes in
-    let fault = c.in_err-found.field-0.0 in
-    let told = subst (λ (heap : HeapImage). (fault ≡ Memory) ⊎ (first_some (live_list_faults (from_tail front.version (with_live heap body.tail.items))) ≡ Some fault)) c.new-heap.ensures c.in_err-found.ensures.fault in
-    let why = check_of_parts front.version front.region_log front.allowance c.as_slice.result.now body.regions.items body.tail.items c.as_slice.ensures.value fault told in
-    rw (p.1, p.2) (check_leaves front.version image fits before after read fault why)
-
-pub returns-in_err-found-clause-memory : goal.returns-in_err-found-clause-memory
-returns-in_err-found-clause-memory g c =
-    let p = err_from_is_err_and c.from_residual-in_err-found.result c.from_residual-in_err-found.ensures.1 in
-    let front = c.in_ok-front.front in
-    let body = c.in_ok-regions.field-0 in
-    let image : HeapImage = image_of front.region_log front.allowance body.regions.items body.tail.items in
-    let before = g.R.Intake.left c.args.reader.now in
-    let after = g.R.Intake.left c.read_body.new.reader in
-    let done = c.in_ok-regions.ensures in
-    let fits : HasFittingNumbers front.version image = fitting_parts front.version front.region_log front.allowance body.regions.items body.tail.items front.words front.count (record { limits = c.in_ok-front.ensures.limits; allowed = c.in_ok-front.ensures.allowed; counted = c.in_ok-front.ensures.counted }) done.words done.tail c.in_ok-front.ensures.fit done.fit done.tail_fit in
-    let read : Consumes before after (listed_text front.version image) = read_parts front.version front.region_log front.allowance body.regions.items body.tail.items front.words front.count done.words done.tail before (g.R.Intake.left c.read_front.new.reader) after c.in_ok-front.ensures.bytes done.bytes in
-    rw (p.1, p.2) (λ _. more_than_front front.version image fits before after read)
+    rw (p.1, p.2) (record {
+      kind = (search_kind (from_tail front.version (with_live c.new-heap.result body.tail.items)) fault c.in_err-found.ensures.fault).0;
+      reason = check_reason front.version image fits before after read fault why;
+      left = check_leaves front.version image fits before after read fault why;
+      memory = λ _. more_than_front front.version image fits before after read;
+    })
 
 pub returns-in_err-found-clause-io : goal.returns-in_err-found-clause-io
 returns-in_err-found-clause-io g c =
@@ -95,31 +70,14 @@ returns-in_err-found-clause-io g c =
     let p = err_from_is_err_and c.from_residual-in_err-found.result c.from_residual-in_err-found.ensures.1 in
     rw (p.1, p.2) (c.in_ok-regions.ensures.failed ∙ c.in_ok-front.ensures.failed ∙ sym ((search_kind (from_tail front.version (with_live c.new-heap.result tail)) c.in_err-found.field-0.0 c.in_err-found.ensures.fault).1 Unchecked))
 
-pub returns-clause-fits : goal.returns-clause-fits
-returns-clause-fits g c =
-    let front = c.in_ok-front.front in
-    let body = c.in_ok-regions.field-0 in
-    let image : HeapImage = image_of front.region_log front.allowance body.regions.items body.tail.items in
-    let before = g.R.Intake.left c.args.reader.now in
-    let after = g.R.Intake.left c.read_body.new.reader in
-    let done = c.in_ok-regions.ensures in
-    let fits : HasFittingNumbers front.version image = fitting_parts front.version front.region_log front.allowance body.regions.items body.tail.items front.words front.count (record { limits = c.in_ok-front.ensures.limits; allowed = c.in_ok-front.ensures.allowed; counted = c.in_ok-front.ensures.counted }) done.words done.tail c.in_ok-front.ensures.fit done.fit done.tail_fit in
-    let read : Consumes before after (listed_text front.version image) = read_parts front.version front.region_log front.allowance body.regions.items body.tail.items front.words front.count done.words done.tail before (g.R.Intake.left c.read_front.new.reader) after c.in_ok-front.ensures.bytes done.bytes in
-    let found = c.in_ok-found.ensures in
-    let tail = tail_is front.version c.new-heap.result body.tail.items c.in_ok-found.found.live.items (option_map (λ v. v.items) c.in_ok-found.found.roots) found.live found.roots in
-    subst (λ xs. HasFittingNumbers front.version (image_of front.region_log front.allowance body.regions.items xs)) (sym tail) fits
-
 pub returns-clause-text : goal.returns-clause-text
 returns-clause-text g c =
     let front = c.in_ok-front.front in
     let body = c.in_ok-regions.field-0 in
-    let image : HeapImage = image_of front.region_log front.allowance body.regions.items body.tail.items in
     let before = g.R.Intake.left c.args.reader.now in
     let after = g.R.Intake.left c.read_body.new.reader in
-    let done = c.in_ok-regions.ensures in
-    let fits : HasFittingNumbers front.version image = fitting_parts front.version front.region_log front.allowance body.regions.items body.tail.items front.words front.count (record { limits = c.in_ok-front.ensures.limits; allowed = c.in_ok-front.ensures.allowed; counted = c.in_ok-front.ensures.counted }) done.words done.tail c.in_ok-front.ensures.fit done.fit done.tail_fit in
-    let read : Consumes before after (listed_text front.version image) = read_parts front.version front.region_log front.allowance body.regions.items body.tail.items front.words front.count done.words done.tail before (g.R.Intake.left c.read_front.new.reader) after c.in_ok-front.ensures.bytes done.bytes in
-    let found = c.in_ok-found.ensures in
+    let read = behind_read front body before (g.R.Intake.left c.read_front.new.reader) after c.in_ok-front.ensures.bytes c.in_ok-regions.ensures.body in
+    let found = c.in_ok-found.ensures.found in
     let tail = tail_is front.version c.new-heap.result body.tail.items c.in_ok-found.found.live.items (option_map (λ v. v.items) c.in_ok-found.found.roots) found.live found.roots in
     subst (λ xs. Consumes before after (listed_text front.version (image_of front.region_log front.allowance body.regions.items xs))) (sym tail) read
 
@@ -132,15 +90,17 @@ returns-clause-found g c =
     let tail = c.in_ok-regions.field-0.tail.items in
     let live = c.in_ok-found.found.live.items in
     let roots = option_map (λ v. v.items) c.in_ok-found.found.roots in
-    let found = c.in_ok-found.ensures in
+    let found = c.in_ok-found.ensures.found in
     let same = c.new-heap.ensures ∙ ap (λ bs. image_of log 0 bs []) c.as_slice.ensures.value in
     let told = sym (tail_is version c.new-heap.result tail live roots found.live found.roots) in
+    let body = c.in_ok-regions.ensures.body in
+    let fits = behind_fits front c.in_ok-regions.field-0 (g.R.Intake.left c.read_front.new.reader) (g.R.Intake.left c.read_body.new.reader) c.in_ok-front.ensures.fits body in
     record {
+      fits = subst (λ xs. HasFittingNumbers version (image_of log front.allowance blocks xs)) told fits;
+      blocks = body.regions;
       live = found.live ∙ ap (λ heap. (from_tail version (with_live heap tail)).live) same ∙ sym (live_same version log front.allowance blocks tail) ∙ ap (λ xs. (from_tail version (image_of log front.allowance blocks xs)).live) told;
       roots = found.roots ∙ ap (λ heap. (from_tail version (with_live heap tail)).roots) same ∙ sym (roots_same version log front.allowance blocks tail) ∙ ap (λ xs. (from_tail version (image_of log front.allowance blocks xs)).roots) told;
-      inside = subst (λ heap. All (λ a. a < heap_words heap) live) same found.inside;
-      begins = subst (λ heap. MarkBegins live (heap_words heap) c.in_ok-found.found.begins) same found.begins;
-      well_formed = λ said. subst (λ heap. AreWellFormed (with_live heap live)) same (found.well_formed said);
+      seen = subst (λ heap. AreSeen heap live c.in_ok-found.found.begins c.in_ok-found.found.well_formed) same found.seen;
       ordered =
           ap (λ xs. first_some (live_list_faults (from_tail version (image_of log front.allowance blocks xs)))) (sym told)
           ∙ ap first_some (faults_same version log front.allowance blocks tail)

@@ -18,31 +18,22 @@ returns-clause-live g c =
     let is : live ≡ filter (has bits) (range_with_len 0 words) = listed_below c.marks_are_listed.ensures c.args.heap.now c.args.roots.now bits live words c.len-words.ensures.value c.in_ok-marked.ensures.reached c.in_ok-live.ensures in
     live_is c.args.heap.now c.args.roots.now bits live words c.len-words.ensures.value c.in_ok-marked.ensures.reached is (c.reachable_is_the_least_closed.ensures.ascending c.args.heap.now c.args.roots.now)
 
-pub returns-clause-inside : goal.returns-clause-inside
-returns-clause-inside g c =
-    let words = c.len-words.result in
-    let bits = c.in_ok-marked.marked.bits in
-    let live = c.in_ok-live.live.items in
-    let is : live ≡ filter (has bits) (range_with_len 0 words) = listed_below c.marks_are_listed.ensures c.args.heap.now c.args.roots.now bits live words c.len-words.ensures.value c.in_ok-marked.ensures.reached c.in_ok-live.ensures in
-    subst (λ n. All (λ a. a < n) live) c.len-words.ensures.value (live_inside c.args.heap.now c.args.roots.now bits live words c.len-words.ensures.value c.in_ok-marked.ensures.reached is)
-
-pub returns-clause-begins : goal.returns-clause-begins
-returns-clause-begins g c =
-    let words = c.len-words.result in
-    let bits = c.in_ok-marked.marked.bits in
-    let live = c.in_ok-live.live.items in
-    let is : live ≡ filter (has bits) (range_with_len 0 words) = listed_below c.marks_are_listed.ensures c.args.heap.now c.args.roots.now bits live words c.len-words.ensures.value c.in_ok-marked.ensures.reached c.in_ok-live.ensures in
-    subst (λ n. MarkBegins live n bits) c.len-words.ensures.value (live_begins c.args.heap.now c.args.roots.now bits live words c.len-words.ensures.value c.in_ok-marked.ensures.reached is (c.reachable_is_the_least_closed.ensures.ascending c.args.heap.now c.args.roots.now))
-
 pub returns-clause-roots : goal.returns-clause-roots
 returns-clause-roots g c = no_root_fault c.args.heap.now c.args.roots.now [] c.len-words.result c.len-words.ensures.value c.misplaced_root.result c.misplaced_root.ensures c.in_default.is
 
-pub returns-clause-well_formed : goal.returns-clause-well_formed
-returns-clause-well_formed g c = λ said.
+pub returns-clause-seen : goal.returns-clause-seen
+returns-clause-seen g c =
+    let heap = c.args.heap.now in
+    let roots = c.args.roots.now in
     let words = c.len-words.result in
     let bits = c.in_ok-marked.marked.bits in
     let live = c.in_ok-live.live.items in
-    let is : live ≡ filter (has bits) (range_with_len 0 words) = listed_below c.marks_are_listed.ensures c.args.heap.now c.args.roots.now bits live words c.len-words.ensures.value c.in_ok-marked.ensures.reached c.in_ok-live.ensures in
-    let reached = live_is c.args.heap.now c.args.roots.now bits live words c.len-words.ensures.value c.in_ok-marked.ensures.reached is (c.reachable_is_the_least_closed.ensures.ascending c.args.heap.now c.args.roots.now) in
-    let inside = subst (λ n. All (λ a. a < n) live) c.len-words.ensures.value (live_inside c.args.heap.now c.args.roots.now bits live words c.len-words.ensures.value c.in_ok-marked.ensures.reached is) in
-    reached_well c.args.heap.now c.args.roots.now live (c.reachable_is_the_least_closed.ensures.closed c.args.heap.now c.args.roots.now) inside reached (c.in_ok-marked.ensures.well_formed said)
+    let is : live ≡ filter (has bits) (range_with_len 0 words) = listed_below c.marks_are_listed.ensures heap roots bits live words c.len-words.ensures.value c.in_ok-marked.ensures.reached c.in_ok-live.ensures in
+    let ascending = c.reachable_is_the_least_closed.ensures.ascending heap roots in
+    let reached = live_is heap roots bits live words c.len-words.ensures.value c.in_ok-marked.ensures.reached is ascending in
+    let inside = subst (λ n. All (λ a. a < n) live) c.len-words.ensures.value (live_inside heap roots bits live words c.len-words.ensures.value c.in_ok-marked.ensures.reached is) in
+    record {
+      inside = inside;
+      begins = subst (λ n. MarkBegins live n bits) c.len-words.ensures.value (live_begins heap roots bits live words c.len-words.ensures.value c.in_ok-marked.ensures.reached is ascending);
+      well_formed = λ said. reached_well heap roots live (c.reachable_is_the_least_closed.ensures.closed heap roots) inside reached (c.in_ok-marked.ensures.well_formed said);
+    }
