@@ -1,5 +1,5 @@
 -- The block of a region.
-use Rattle.std.specs.Prelude.{◌≡◌, ◌≤◌, ◌<◌, Some, None}
+use Rattle.std.specs.Prelude.{◌≡◌, ◌≤◌, ◌<◌, Bool, Some, None}
 use Rattle.std.specs.Arc.{arc_value}
 use Rattle.raw_region.specs.declared.block.Block.{Block}
 use Rattle.raw_region.specs.declared.block.TheConstants.{MAX_WORDS}
@@ -17,9 +17,21 @@ pub record IsLeased (lease : Lease) (room : Room) : Type 0 where
 
 -- what the block may free
 abbrev pub IsAtHome : Home → Block → Type 0
-IsAtHome Own b = b.deed ≡ Some (b.at, b.len)
-IsAtHome (Leased lease) b = IsLeased lease (room_of b)
-IsAtHome Host b = b.deed ≡ None
+IsAtHome (Own _) b = b.deed ≡ Some (b.at, b.len)
+IsAtHome (Leased _ lease) b = IsLeased lease (room_of b)
+IsAtHome (Host _) b = b.deed ≡ None
+
+-- whether the region is cleared
+abbrev pub is_clear_of : Home → Bool
+is_clear_of (Own clear) = clear
+is_clear_of (Leased clear _) = clear
+is_clear_of (Host clear) = clear
+
+-- the same home of a region that is cleared or not
+abbrev pub with_clear : Home → Bool → Home
+with_clear (Own _) clear = Own clear
+with_clear (Leased _ lease) clear = Leased clear lease
+with_clear (Host _) clear = Host clear
 
 pub record IsRegionBlock (home : Home) (b : Block) : Type 0 where
   pub some : 1 ≤ b.len

@@ -18,8 +18,7 @@ static ZEROS: [u64; HIDDEN_WORDS] = [0; HIDDEN_WORDS];
 /// From 1 to `MAX_WORDS` words of 64 bits. A contract sees the list of them.
 pub struct Region {
     block: Block,
-    /// Whether all words are 0, whatever the block contains, if it has at most `HIDDEN_WORDS`.
-    is_clear: bool,
+    /// If it is clear, all words are 0, whatever the block contains, if that has at most `HIDDEN_WORDS`.
     home: Home,
     alloc: Global,
 }
@@ -27,11 +26,11 @@ pub struct Region {
 impl Model for Region {
     ghost use Rattle.std.specs.Prelude.{List, ℕ};
     ghost use Rattle.raw_region.specs.Region.{shown_words};
-    ghost use Rattle.raw_region.specs.RegionBlock.{IsRegionBlock};
+    ghost use Rattle.raw_region.specs.RegionBlock.{IsRegionBlock, is_clear_of};
 
     ghost Value = { List ℕ };
 
-    ghost view = { λ r. shown_words r.is_clear r.block.words };
+    ghost view = { λ r. shown_words (is_clear_of r.home) r.block.words };
 
     ghost invariant = { λ r. IsRegionBlock r.home r.block };
 }
@@ -51,8 +50,7 @@ impl Region {
         let block = Block::zeroed(&alloc, words)?;
         Ok(Region {
             block,
-            is_clear: false,
-            home: Home::Own,
+            home: Home::Own { is_clear: false },
             alloc,
         })
     }
@@ -66,8 +64,7 @@ impl Region {
         let block = Block::of_words(&alloc, words)?;
         Ok(Region {
             block,
-            is_clear: false,
-            home: Home::Own,
+            home: Home::Own { is_clear: false },
             alloc,
         })
     }
@@ -81,8 +78,10 @@ impl Region {
     {
         Region {
             block,
-            is_clear: false,
-            home: Home::Leased(lease),
+            home: Home::Leased {
+                is_clear: false,
+                lease,
+            },
             alloc,
         }
     }
@@ -96,8 +95,7 @@ impl Region {
     {
         Region {
             block,
-            is_clear: false,
-            home: Home::Host,
+            home: Home::Host { is_clear: false },
             alloc,
         }
     }
@@ -109,23 +107,17 @@ impl Region {
     {
         let Region {
             mut block,
-            is_clear,
             home,
             alloc,
         } = self;
         match home {
-            Home::Host => {
+            Home::Host { is_clear } => {
                 if hides(is_clear, block.words()) {
                     zero(block.words_mut());
                 }
                 Ok(block)
             }
-            home => Err(Region {
-                block,
-                is_clear,
-                home,
-                alloc,
-            }),
+            home => Err(Region { block, home, alloc }),
         }
     }
 
@@ -145,7 +137,7 @@ impl Region {
         ensures at_most { length self.now ≤ MAX_WORDS }
     {
         let words = self.block.words();
-        if hides(self.is_clear, words) {
+        if hides(self.home.is_clear(), words) {
             &ZEROS[..words.len()]
         } else {
             words
@@ -157,10 +149,10 @@ impl Region {
         ensures* writes_back { sem 𝓛 (LendsRegion self.entry result) }
         ensures value { result.now ≡ self.old }
     {
-        if hides(self.is_clear, self.block.words()) {
+        if hides(self.home.is_clear(), self.block.words()) {
             zero(self.block.words_mut());
         }
-        self.is_clear = false;
+        self.home.set_clear(false);
         self.block.words_mut()
     }
 
@@ -190,7 +182,7 @@ impl Region {
         if self.block.words().len() > HIDDEN_WORDS {
             zero(self.block.words_mut());
         }
-        self.is_clear = true;
+        self.home.set_clear(true);
     }
 
     /// Whether the region was cleared and not written since, and has at most `HIDDEN_WORDS` words. Then all of them
@@ -198,7 +190,7 @@ impl Region {
     pub fn is_cleared(&self) -> bool
         ensures { IsTrue result → self.now ≡ replicate (length self.now) 0 }
     {
-        hides(self.is_clear, self.block.words())
+        hides(self.home.is_clear(), self.block.words())
     }
 
     /// Sets each of the `n` words at index `at` to `word`.
@@ -249,16 +241,11 @@ fn zero(words: &mut [u64])
 
 impl Drop for Region {
     fn drop(self) {
-        let Region {
-            block,
-            is_clear: _,
-            home,
-            alloc,
-        } = self;
+        let Region { block, home, alloc } = self;
         match home {
-            Home::Own => block.release(&alloc),
-            Home::Leased(lease) => lease.end(block.into_room(), &alloc),
-            Home::Host => block.leave(),
+            Home::Own { is_clear: _ } => block.release(&alloc),
+            Home::Leased { is_clear: _, lease } => lease.end(block.into_room(), &alloc),
+            Home::Host { is_clear: _ } => block.leave(),
         }
     }
 }

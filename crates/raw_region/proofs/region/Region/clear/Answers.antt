@@ -2,7 +2,8 @@ use Rattle.std.proofs.Common.{◌≡◌, ◌≤◌, length, replicate, ℕ, true
 use Rattle.std.proofs.lemmas.Bool.{le-leb}
 use Rattle.std.proofs.lemmas.List.{length-replicate}
 use Rattle.raw_region.specs.Region.{shown_words}
-use Rattle.raw_region.proofs.Lemmas.Seen.{length-shown_words, shown_words-cleared, shown_words-zeros}
+use Rattle.raw_region.specs.RegionBlock.{is_clear_of}
+use Rattle.raw_region.proofs.Lemmas.Seen.{is_clear-set, length-shown_words, shown_words-cleared, shown_words-zeros}
 use Rattle.raw_region.proofs.region.Region.clear.Goals as goal
 use Rattle.raw_region.proofs.region.Region.clear.Goals.{then-words-gt-HIDDEN_WORDS, else-words-gt-HIDDEN_WORDS}
 
@@ -21,18 +22,19 @@ pub returns-clause-value : goal.returns-clause-value
 returns-clause-value c =
     let ws = c.self.inside.block.words in
     let new = c.if-words-gt-HIDDEN_WORDS.self-inside.block.words in
-    elim c.if-words-gt-HIDDEN_WORDS.branch [
+    ap (λ flag. shown_words flag new) (is_clear-set c.set_clear.new.self c.if-words-gt-HIDDEN_WORDS.self-inside.home true c.set_clear.ensures)
+    ∙ elim c.if-words-gt-HIDDEN_WORDS.branch [
       | then-words-gt-HIDDEN_WORDS w ↦ zeroed ws new (ap (λ i. i.block.words) w.self-inside-is ∙ w.zero.ensures ∙ ap (λ l. replicate {A = ℕ} (length l) 0) w.words_mut.ensures.value)
       | else-words-gt-HIDDEN_WORDS w ↦ hidden ws new c.words.result.now (ap (λ i. i.block.words) w.self-inside-is) c.words.ensures.value w.if-words-gt-HIDDEN_WORDS.false
-    ] ∙ ap (λ n. replicate {A = ℕ} n 0) (sym (length-shown_words c.self.inside.is_clear ws) ∙ ap length c.self.view_is)
+    ] ∙ ap (λ n. replicate {A = ℕ} n 0) (sym (length-shown_words (is_clear_of c.self.inside.home) ws) ∙ ap length c.self.view_is)
 
 pub returns-clause-same_length : goal.returns-clause-same_length
 returns-clause-same_length c =
     let ws = c.self.inside.block.words in
     let new = c.if-words-gt-HIDDEN_WORDS.self-inside.block.words in
-    length-shown_words true new
+    length-shown_words (is_clear_of c.set_clear.new.self) new
     ∙ elim c.if-words-gt-HIDDEN_WORDS.branch [
       | then-words-gt-HIDDEN_WORDS w ↦ ap length (ap (λ i. i.block.words) w.self-inside-is ∙ w.zero.ensures ∙ ap (λ l. replicate {A = ℕ} (length l) 0) w.words_mut.ensures.value) ∙ length-replicate (length ws) 0
       | else-words-gt-HIDDEN_WORDS w ↦ ap (λ i. length i.block.words) w.self-inside-is
     ]
-    ∙ (sym (length-shown_words c.self.inside.is_clear ws) ∙ ap length c.self.view_is)
+    ∙ (sym (length-shown_words (is_clear_of c.self.inside.home) ws) ∙ ap length c.self.view_is)

@@ -1,6 +1,7 @@
 use Rattle.std.proofs.Common.{◌≡◌, ◌≤◌, length, replicate, take, ℕ, Bool, true, false, List, ◌∙◌, ap, sym, subst}
 use Rattle.std.proofs.lemmas.List.{take-replicate}
 use Rattle.raw_region.specs.Region.{hides, shown_words}
+use Rattle.raw_region.specs.RegionBlock.{is_clear_of}
 use Rattle.raw_region.proofs.Lemmas.Seen.{hides-lent, length-shown_words, shown_words-cleared, shown_words-kept}
 use Rattle.raw_region.proofs.region.Region.words.Goals as goal
 
@@ -21,21 +22,21 @@ zeros b ws got now is cleared same most = ap (λ l. take (length l) (replicate {
 pub returns-then-hides-clause-value : goal.returns-then-hides-clause-value
 returns-then-hides-clause-value c =
     let got = c.words-words.result.now in
-    zeros c.self.inside.is_clear c.self.inside.block.words got c.args.self.now c.self.view_is (hides-lent c.self.inside.is_clear c.self.inside.block.words got c.hides.result true c.words-words.ensures.value c.hides.ensures.value c.if-hides.true) c.words-words.ensures.value (c.hides.ensures.few c.if-hides.true)
+    zeros (is_clear_of c.self.inside.home) c.self.inside.block.words got c.args.self.now c.self.view_is (hides-lent (is_clear_of c.self.inside.home) c.self.inside.block.words c.is_clear.result got c.hides.result true c.is_clear.ensures c.words-words.ensures.value c.hides.ensures.value c.if-hides.true) c.words-words.ensures.value (c.hides.ensures.few c.if-hides.true)
 
 pub returns-then-hides-clause-nonempty : goal.returns-then-hides-clause-nonempty
-returns-then-hides-clause-nonempty c = nonempty c.self.inside.is_clear c.self.inside.block.words c.args.self.now c.self.inside.block.len c.self.view_is c.words-words.ensures.length c.self.invariant.some
+returns-then-hides-clause-nonempty c = nonempty (is_clear_of c.self.inside.home) c.self.inside.block.words c.args.self.now c.self.inside.block.len c.self.view_is c.words-words.ensures.length c.self.invariant.some
 
 pub returns-then-hides-clause-at_most : goal.returns-then-hides-clause-at_most
-returns-then-hides-clause-at_most c = at_most c.self.inside.is_clear c.self.inside.block.words c.args.self.now c.self.inside.block.len c.self.view_is c.words-words.ensures.length c.self.invariant.most
+returns-then-hides-clause-at_most c = at_most (is_clear_of c.self.inside.home) c.self.inside.block.words c.args.self.now c.self.inside.block.len c.self.view_is c.words-words.ensures.length c.self.invariant.most
 
 pub returns-else-hides-clause-value : goal.returns-else-hides-clause-value
 returns-else-hides-clause-value c =
     let got = c.words-words.result.now in
-    c.words-words.ensures.value ∙ sym (shown_words-kept c.self.inside.is_clear c.self.inside.block.words (hides-lent c.self.inside.is_clear c.self.inside.block.words got c.hides.result false c.words-words.ensures.value c.hides.ensures.value c.if-hides.false)) ∙ c.self.view_is
+    c.words-words.ensures.value ∙ sym (shown_words-kept (is_clear_of c.self.inside.home) c.self.inside.block.words (hides-lent (is_clear_of c.self.inside.home) c.self.inside.block.words c.is_clear.result got c.hides.result false c.is_clear.ensures c.words-words.ensures.value c.hides.ensures.value c.if-hides.false)) ∙ c.self.view_is
 
 pub returns-else-hides-clause-nonempty : goal.returns-else-hides-clause-nonempty
-returns-else-hides-clause-nonempty c = nonempty c.self.inside.is_clear c.self.inside.block.words c.args.self.now c.self.inside.block.len c.self.view_is c.words-words.ensures.length c.self.invariant.some
+returns-else-hides-clause-nonempty c = nonempty (is_clear_of c.self.inside.home) c.self.inside.block.words c.args.self.now c.self.inside.block.len c.self.view_is c.words-words.ensures.length c.self.invariant.some
 
 pub returns-else-hides-clause-at_most : goal.returns-else-hides-clause-at_most
-returns-else-hides-clause-at_most c = at_most c.self.inside.is_clear c.self.inside.block.words c.args.self.now c.self.inside.block.len c.self.view_is c.words-words.ensures.length c.self.invariant.most
+returns-else-hides-clause-at_most c = at_most (is_clear_of c.self.inside.home) c.self.inside.block.words c.args.self.now c.self.inside.block.len c.self.view_is c.words-words.ensures.length c.self.invariant.most
