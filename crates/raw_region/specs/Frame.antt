@@ -36,8 +36,9 @@ pub record FrameView : Type 0 where
 abbrev pub part_of : FrameView → ℕ → Place
 part_of f index = place_of f.root f.size index
 
--- the deed has no words, and may free those of all parts; there is a slot for each part, in order
-pub record IsFrame (deed : Room) (size : ℕ) (slots : List Place) : Type 0 where
+-- the deed has no words, lies at the root, and may free those of all parts; there is a slot for each part, in order
+pub record IsFrame (deed : Room) (root : Ptr) (size : ℕ) (slots : List Place) : Type 0 where
+  pub begins : root ≡ deed.at
   pub some : 1 ≤ size
   pub most : size ≤ MAX_WORDS
   pub fits : length slots * size < 2 ^ 60

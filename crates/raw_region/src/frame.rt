@@ -6,7 +6,7 @@ ghost use Rattle.raw_region.specs.Frame.{place_of, part_of, IsPart, IsRest};
 
 use crate::block::MAX_WORDS;
 use crate::part::{Part, Place};
-use crate::room::Room;
+use crate::room::{Room, Root};
 use counted_slot::{Counted, FREE, TAKEN};
 use std::alloc::{AllocError, Global};
 use std::marker::Model;
@@ -23,6 +23,7 @@ const OUT: u64 = 0x1_0000_0000;
 pub(crate) struct Frame {
     // No room, and the right to free the allocation.
     deed: Room,
+    root: Root,
     size: usize,
     slots: Vec<Counted<Option<Part>>>,
 }
@@ -35,7 +36,7 @@ impl Model for Frame {
 
     ghost view = { λ f. record { root = f.deed.at; size = f.size; count = length f.slots.items } };
 
-    ghost invariant = { λ f. IsFrame f.deed f.size f.slots.items };
+    ghost invariant = { λ f. IsFrame f.deed f.root.at f.size f.slots.items };
 }
 
 impl Frame {
@@ -50,9 +51,15 @@ impl Frame {
     {
         let mut slots = Vec::with_capacity(alloc, count)?;
         let (deed, room) = Room::allocate(&alloc, count * size)?.cut(0);
-        let first = Place::first(&deed, size);
+        let (deed, root) = deed.rooted();
+        let first = Place::first(root, size);
         put_all(&mut slots, room, count, first);
-        Ok(Frame { deed, size, slots })
+        Ok(Frame {
+            deed,
+            root,
+            size,
+            slots,
+        })
     }
 
     /// The number of words of a part.
@@ -84,7 +91,7 @@ impl Frame {
             return None;
         }
         let part = claim.put(None, OUT)?;
-        Some(part.into_room())
+        Some(part.into_room(self.root, index, self.size))
     }
 
     /// Puts a part back into its slot. No one else turns the slot while the part is out, so the turn wins. No contract
@@ -93,7 +100,7 @@ impl Frame {
         requires inside { index < self.now.count }
         requires part { IsPart (part_of self.now index) room }
     {
-        let part = Part { room };
+        let part = Part::of(room);
         let (found, claim) = self.slot(index).turn(OUT, TAKEN);
         if found == OUT {
             claim.put(Some(part), HERE);
@@ -106,16 +113,19 @@ impl Frame {
     pub(crate) fn end(self, alloc: &Global) {
         let Frame {
             deed,
-            size: _,
+            root,
+            size,
             slots,
         } = self;
         let mut whole = deed;
+        let mut index = 0;
         for slot in slots {
             let Some(part) = slot.into_inner() else {
                 whole.leave();
                 return;
             };
-            whole = whole.join(part.into_room());
+            whole = whole.join(part.into_room(root, index, size));
+            index += 1;
         }
         whole.release(alloc);
     }
@@ -123,6 +133,7 @@ impl Frame {
     fn slot(&self, index: usize) -> &Counted<Option<Part>>
         requires { index < self.now.count }
         ensures value { result.now ≡ part_of self.now index }
+        ensures fits { index * self.now.size + self.now.size < 2 ^ 60 }
         ensures nonempty { 1 ≤ self.now.size }
         ensures at_most { self.now.size ≤ MAX_WORDS }
     {
@@ -142,7 +153,7 @@ fn put_all(slots: &mut Vec<Counted<Option<Part>>>, room: Room, count: usize, fir
     let mut rest = room;
     for _ in 0..count {
         let (room, above) = rest.cut(place.size());
-        add(slots, Counted::new(Some(Part { room }), &place));
+        add(slots, Counted::new(Some(Part::of(room)), &place));
         rest = above;
         place.step();
     }

@@ -1,44 +1,71 @@
 //! The parts of a frame, by their numbers.
-ghost use Rattle.std.specs.Prelude.{◌≡◌, ◌+◌, ◌<◌, ◌^◌};
+ghost use Rattle.std.specs.Prelude.{◌≡◌, ◌+◌, ◌*◌, ◌<◌, ◌^◌, ℕ, None};
+ghost use Rattle.std.specs.Ptr.{Ptr};
+ghost use Rattle.raw_region.specs.Block.{room_owns};
 ghost use Rattle.raw_region.specs.Frame.{place_of};
 
-use crate::room::Room;
+use crate::room::{Room, Root};
 use counted_slot::Fits;
-use std::marker::Model;
-use std::snapshot::Snapshot;
+use std::marker::{Model, Send, Sync};
 
-/// The room of a region while it is in a frame. If it is dropped, nobody frees it.
+/// The room of a region while it is in a frame. It takes no space: where it lies follows from its number. If it is
+/// dropped, nobody frees it.
 pub(crate) struct Part {
-    pub(crate) room: Room,
+    pub(crate) ghost at: { Ptr },
+    pub(crate) ghost len: { ℕ },
 }
 
+impl Model for Part {
+    ghost also_owns = { λ p. room_owns None p.at p.len };
+}
+
+unsafe impl Send for Part {}
+
+unsafe impl Sync for Part {}
+
 impl Part {
-    pub(crate) fn into_room(self) -> Room
-        ensures { result ≡ self.room }
+    ghost use Rattle.raw_region.specs.Frame.{IsPart};
+    ghost use Rattle.raw_region.specs.PartRoom.{held_by};
+
+    pub(crate) fn of(room: Room) -> Part
+        requires { room.deed ≡ None }
+        ensures { held_by result ≡ room }
     {
-        let Part { room } = self;
-        room
+        let Room { at: _, len: _ } = room;
+        Part {}
+    }
+
+    /// Gives up its room, which is that of the part with this number, among parts of `size` words from `root` on.
+    pub(crate) fn into_room(self, root: Root, index: usize, size: usize) -> Room
+        requires part { IsPart (place_of root.at size index) (held_by self) }
+        requires fits { index * size + size < 2 ^ 60 }
+        ensures { result ≡ held_by self }
+    {
+        let Part {} = self;
+        let at = unsafe { root.at.add(index * size) };
+        Room { at, len: size }
     }
 }
 
 impl Drop for Part {
     fn drop(self) {
-        self.into_room().leave();
+        let Part {} = self;
     }
 }
 
 impl Fits for Part {
     ghost use Rattle.raw_region.specs.Frame.{IsPart};
+    ghost use Rattle.raw_region.specs.PartRoom.{held_by};
 
     type Tag = Place;
 
-    ghost fits = { λ place part. IsPart place part.room };
+    ghost fits = { λ place part. IsPart place (held_by part) };
 }
 
 /// Which part of a frame.
 #[derive(Drop)]
 pub(crate) struct Place {
-    root: Snapshot<Room>,
+    root: Root,
     size: usize,
     index: usize,
 }
@@ -48,15 +75,15 @@ impl Model for Place {
 
     ghost Value = { Place };
 
-    ghost view = { λ p. place_of p.root.value.at p.size p.index };
+    ghost view = { λ p. place_of p.root.at p.size p.index };
 }
 
 impl Place {
-    pub(crate) fn first(root: &Room, size: usize) -> Place
-        ensures { result ≡ place_of root.now.at size 0 }
+    pub(crate) fn first(root: Root, size: usize) -> Place
+        ensures { result ≡ place_of root.at size 0 }
     {
         Place {
-            root: Snapshot::of(root),
+            root,
             size,
             index: 0,
         }

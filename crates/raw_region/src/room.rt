@@ -25,6 +25,16 @@ unsafe impl Send for Room {}
 
 unsafe impl Sync for Room {}
 
+/// Where room begins. It owns nothing.
+#[derive(Clone, Copy)]
+pub(crate) struct Root {
+    pub(crate) at: *mut u64,
+}
+
+unsafe impl Send for Root {}
+
+unsafe impl Sync for Root {}
+
 impl Room {
     ghost use Rattle.raw_region.specs.Cutting.{IsCut, CanJoin, IsJoin};
     ghost use Rattle.raw_region.specs.Rooms.{room_of};
@@ -42,6 +52,14 @@ impl Room {
             }
             Err(refused) => Err(refused),
         }
+    }
+
+    /// Returns the room itself, and where it begins.
+    pub(crate) fn rooted(self) -> (Room, Root)
+        ensures { (result.0 ≡ self) × (result.1.at ≡ self.at) }
+    {
+        let Room { at, len } = self;
+        (Room { at, len }, Root { at })
     }
 
     /// Cuts off the room for the first `n` words, which keeps the deed.

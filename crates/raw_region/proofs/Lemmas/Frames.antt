@@ -4,15 +4,17 @@
 --     part-of-cut    a cut at the size of a part gives the next part
 --     rest-of-cut    and what is left
 --     slot-at        the k-th slot is that of part k
+--     place-at       and its place follows from its number
+--     fits-at        a part's words end below 2 ^ 60
 --     joined         the parts below number k and the next part, joined
-use Rattle.std.proofs.Common.{◌≡◌, ◌≤◌, ◌<◌, ◌+◌, ◌*◌, ◌^◌, ℕ, suc, List, length, get_or, Some, refl, sym, ap, ◌∙◌, arith}
+use Rattle.std.proofs.Common.{◌≡◌, ◌≤◌, ◌<◌, ◌+◌, ◌*◌, ◌^◌, ℕ, suc, List, length, get_or, Some, refl, sym, ap, subst, ◌∙◌, arith}
 use Rattle.std.specs.Prelude.{map}
 use Rattle.std.specs.List.{range_with_len}
 use Rattle.std.proofs.lemmas.List.FromFn.{get_or-map-range_with_len}
 use Rattle.std.proofs.Math.Nat.{mul-le-mul_right, suc-mul}
 use denote.RawPtr.{Ptr, block_ptr, null_ptr}
 use Rattle.raw_region.specs.Cutting.{end_of, IsCut, CanJoin, IsJoin}
-use Rattle.raw_region.specs.Frame.{Place, place_of, IsPart, IsRest}
+use Rattle.raw_region.specs.Frame.{Place, place_of, IsPart, IsRest, IsFrame}
 use Rattle.raw_region.specs.declared.room.Room.{Room}
 
 pub end-more : (p : Ptr) (m n k : ℕ) → m + n ≡ k → end_of (end_of p m) n ≡ end_of p k
@@ -42,6 +44,14 @@ pub slot-at : (root : Ptr) (size k : ℕ) (slots : List Place) (slot : Place) �
     → k < length slots → slot ≡ get_or slots k slot → slot ≡ place_of root size k
 slot-at root size k slots slot are few at =
     at ∙ ap (λ l. get_or l k slot) are ∙ get_or-map-range_with_len (place_of root size) 0 (length slots) k k slot few (omega arith)
+
+module _ (deed : Room) (root : Ptr) (size k index : ℕ) (slots : List Place) (is : IsFrame deed root size slots) (few : k < length slots) (counted : index ≡ k) where
+  pub place-at : (slot : Place) → slot ≡ get_or slots k slot → slot ≡ place_of root size index
+  place-at slot at =
+      slot-at deed.at size k slots slot is.slots_are few at ∙ ap (λ p. place_of p size k) (sym is.begins) ∙ ap (place_of root size) (sym counted)
+
+  pub fits-at : index * size + size < 2 ^ 60
+  fits-at = subst (λ i. i * size + size < 2 ^ 60) (sym counted) (omega (arith, room size (length slots) k few, is.fits))
 
 -- the words of the parts below number k, which may free the words of n parts
 pub record IsJoined (root : Ptr) (size n k : ℕ) (b : Room) : Type 0 where

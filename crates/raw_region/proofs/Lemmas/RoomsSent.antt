@@ -13,6 +13,7 @@ use Rattle.core.specs.Allocator.{array_of}
 use Rattle.std_alloc.proofs.SendSync.{quiet}
 use Rattle.raw_region.specs.Block.{Deed, right}
 use Rattle.raw_region.specs.contracts.room.Room.{the_row, the_type}
+use Rattle.raw_region.specs.contracts.part.Part as P
 
 pub freed : (deed : Deed) → Keyless (right deed)
 freed (Some a) = frees.frees (record { memory = record { seal = tt } }) (array_of u64 a.1) a.0
@@ -26,4 +27,11 @@ pub room_send : IsSend the_row
 room_send =
     let O = the_type in let all : AllSend (fields O) = (search sendable, (search sendable, tt)) in
     owning_send O all (λ d. (tt, (roomy (ty_array (ty_int w64) d.len) d.at, freed d.deed)))
+    (λ k. quiet (to O) (exits_of k (fields O)) ((struct_send (shape O) all).leaving k))
+
+-- a part may go where its room may
+pub part_send : IsSend P.the_row
+part_send =
+    let O = P.the_type in let all : AllSend (fields O) = tt in
+    owning_send O all (λ d. (tt, (roomy (ty_array (ty_int w64) d.len) d.at, freed None)))
     (λ k. quiet (to O) (exits_of k (fields O)) ((struct_send (shape O) all).leaving k))

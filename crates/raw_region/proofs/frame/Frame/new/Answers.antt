@@ -15,14 +15,18 @@ invariant_of-result c =
     let first = c.first-first.result in
     let count = c.args.count in
     let size = c.args.size in
-    let deed = c.cut-deed.result.0 in
+    let cut = c.cut-deed.ensures in
+    let deed = c.rooted-deed.result.0 in
+    let same = c.rooted-deed.ensures.0 in
+    let begins : c.rooted-deed.result.1.at ≡ deed.at = c.rooted-deed.ensures.1 ∙ ap (λ d. d.at) (sym same) in
     let slots = c.put_all.new.slots.items in
     let all : length slots ≡ count = ap length c.put_all.ensures ∙ length-map-range_with_len (place_of first.root first.size) 0 count in
     record {
+      begins = begins;
       some = c.requires.nonempty;
       most = c.requires.at_most;
       fits = subst (λ n. n * size < 2 ^ 60) (sym all) c.requires.fits;
-      empty = c.cut-deed.ensures.len;
-      frees = c.cut-deed.ensures.deed ∙ c.in_ok-allocate.ensures.1 ∙ ap (λ p. Some (p, count * size)) (sym c.cut-deed.ensures.at) ∙ ap (λ n. Some (deed.at, n * size)) (sym all);
-      slots_are = c.put_all.ensures ∙ ap (λ p. map (place_of p.root p.size) (range_with_len 0 count)) c.first-first.ensures ∙ ap (λ n. map (place_of deed.at size) (range_with_len 0 n)) (sym all);
+      empty = ap (λ d. d.len) same ∙ cut.len;
+      frees = ap (λ d. d.deed) same ∙ cut.deed ∙ c.in_ok-allocate.ensures.1 ∙ ap (λ p. Some (p, count * size)) (sym cut.at ∙ ap (λ d. d.at) (sym same)) ∙ ap (λ n. Some (deed.at, n * size)) (sym all);
+      slots_are = c.put_all.ensures ∙ ap (λ p. map (place_of p.root p.size) (range_with_len 0 count)) c.first-first.ensures ∙ ap (λ p. map (place_of p size) (range_with_len 0 count)) begins ∙ ap (λ n. map (place_of deed.at size) (range_with_len 0 n)) (sym all);
     }
