@@ -196,7 +196,7 @@ fn fill_of<M: Moves>(alloc: Global, moves: &M, regions: u32) -> Result<Vec<bool>
 }
 
 /// All pairs, by destination and then by source. A region has at most two readers, so there are at most twice as many
-/// pairs as regions.
+/// pairs as regions; the room that they leave is given back.
 fn pairs_of<M: Moves>(alloc: Global, moves: &M, regions: u32) -> Result<Vec<(u32, u32)>, AllocError>
     requires number { regions ≡ region_count (M.table moves.now) }
     requires lawful { IsMoveTable (M.table moves.now) }
@@ -206,6 +206,7 @@ fn pairs_of<M: Moves>(alloc: Global, moves: &M, regions: u32) -> Result<Vec<(u32
     for destination in 0..regions {
         push_pairs(&mut pairs, moves, destination)?;
     }
+    pairs.shrink_to_fit();
     Ok(pairs)
 }
 

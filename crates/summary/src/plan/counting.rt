@@ -28,10 +28,13 @@ pub(crate) fn count_regions(
 {
     let starts = own_starts(alloc, image, marks)?;
     let starts = starts.as_slice();
-    let share = starts.len().div_ceil(workers.max(1));
+    let share = starts.len().div_ceil(workers.max(1)).max(LEAST);
+    if share >= starts.len() {
+        return count_in_turn(alloc, image, marks, starts);
+    }
     (0..image.regions())
         .into_par_iter()
-        .with_min_len(share.max(LEAST))
+        .with_min_len(share)
         .map(
             |r: u32| -> RegionCounts
                 requires { (marks.now ≡ image.now) × AreOwnStarts image.now starts.now × (r < region_count image.now) }
@@ -51,6 +54,20 @@ pub(crate) fn count_regions_alone(
     ensures { IfOk result (λ counts. AreRegionCounts image.now counts.items) }
 {
     let starts = own_starts(alloc, image, marks)?;
+    count_in_turn(alloc, image, marks, starts.as_slice())
+}
+
+/// The counts of all regions, from their own starts, one after the other.
+fn count_in_turn(
+    alloc: Global,
+    image: &Image,
+    marks: &Marks,
+    starts: &[u64],
+) -> Result<Vec<RegionCounts>, AllocError>
+    requires marks { marks.now ≡ image.now }
+    requires starts { AreOwnStarts image.now starts.now }
+    ensures { IfOk result (λ counts. AreRegionCounts image.now counts.items) }
+{
     let mut counts = Vec::with_capacity(alloc, starts.len())?;
     for r in 0..image.regions() {
         counts.push(counts_of(image, marks, r, starts[r as usize]))?;

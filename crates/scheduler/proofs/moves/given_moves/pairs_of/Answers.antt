@@ -10,4 +10,4 @@ pub returns : goal.returns
 returns g c =
     let m : MoveTable = g.M.Moves.table c.args.moves.now in
     let last : c.loop-destination.destination ≡ region_count m = let n = c.requires.number in omega arith in
-    c.loop-destination.invariant ∙ (ap (λ (d : ℕ). pairs_before m d 0) last ∙ pairs_before-whole m c.requires.lawful)
+    c.shrink_to_fit.ensures.items ∙ c.loop-destination.invariant ∙ (ap (λ (d : ℕ). pairs_before m d 0) last ∙ pairs_before-whole m c.requires.lawful)

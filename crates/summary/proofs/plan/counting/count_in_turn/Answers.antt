@@ -4,7 +4,7 @@ use Rattle.std.specs.Prelude.{map}
 use Rattle.std.specs.List.{range_with_len}
 use Rattle.object_heap.specs.HeapImage.{region_count}
 use Rattle.summary.specs.Layout.{region_counts}
-use Rattle.summary.proofs.plan.counting.count_regions_alone.Goals as goal
+use Rattle.summary.proofs.plan.counting.count_in_turn.Goals as goal
 
 pub loop-r-preserved : goal.loop-r-preserved
 loop-r-preserved c =
