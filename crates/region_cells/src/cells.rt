@@ -194,7 +194,6 @@ impl Cells {
 
     /// The slot of a region. `None` if it is not to be filled.
     fn slot(&self, region: u32) -> Option<&Counted<Kept>>
-        requires { region < region_count self.now }
         ensures place { IfSome result (λ slot. slot.now ≡ record { image = self.now; region = region }) }
         ensures other { IfNone result (fill_count self.now ≤ region) }
         ensures valid { IsValid self.now }
