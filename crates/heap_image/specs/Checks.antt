@@ -13,6 +13,10 @@ use Rattle.heap_image.specs.declared.check.unchecked.Found.{Found}
 abbrev pub IsMemoryOr : Option Fault → Fault → Type 0
 IsMemoryOr first fault = (fault ≡ Memory) ⊎ (first ≡ Some fault)
 
+-- the first fault of the roots or the live list of a text of this version with these numbers after the words
+abbrev pub first_in_tail : Version → HeapImage → List ℕ → Option Fault
+first_in_tail version heap tail = first_some (live_list_faults (from_tail version (with_live heap tail)))
+
 -- the result is `Ok` only where there is no fault, and otherwise the first one
 pub record Reports {A : Type 0} (result : Result A Fault) (first : Option Fault) : Type 0 where
   pub ok : OnOk result (first ≡ None)
@@ -35,5 +39,4 @@ pub record AreOfTail (heap : HeapImage) (version : Version) (tail : List ℕ) (f
   pub live : found.live.items ≡ (from_tail version (with_live heap tail)).live
   pub roots : option_map (λ v. v.items) found.roots ≡ (from_tail version (with_live heap tail)).roots
   pub seen : AreSeen heap found.live.items found.begins found.well_formed
-  pub ordered : first_some (live_list_faults (from_tail version (with_live heap tail)))
-      ≡ first_object_fault (with_live heap found.live.items)
+  pub ordered : first_in_tail version heap tail ≡ first_object_fault (with_live heap found.live.items)

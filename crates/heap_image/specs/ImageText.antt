@@ -9,7 +9,7 @@ use Rattle.object_heap.specs.declared.version.Version.{Version}
 use Rattle.object_heap.specs.declared.version.Version.TheVariants.{One, Two, Three}
 use Rattle.std.specs.Int.{w32, w64, to_le_bytes}
 use Rattle.std.specs.List.{range_with_len}
-use Rattle.std.specs.Prelude.{◌≡◌, ℕ, ◌+◌, ◌*◌, ◌/◌, ◌%◌, ◌^◌, ◌<◌, Bool, true, false, not, ◌||◌, nat_lt, ◌==◌, if◌then◌else◌, List, [], ◌∷◌, ◌++◌, length, map, take, All, Option, None, Some, option_map, flat_map}
+use Rattle.std.specs.Prelude.{◌≡◌, ℕ, ◌+◌, ◌*◌, ◌/◌, ◌%◌, ◌^◌, ◌<◌, Bool, true, false, not, ◌||◌, nat_lt, ◌==◌, if◌then◌else◌, List, [], ◌∷◌, ◌++◌, length, map, take, All, Option, None, Some, option_map}
 use Rattle.std.specs.Str.{bytes_eq}
 
 -- The first 32 bytes of a text. Numbers are little endian.

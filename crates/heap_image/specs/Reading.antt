@@ -1,5 +1,5 @@
 -- An image that was read, before and after its check.
-use Rattle.std.specs.Prelude.{◌≡◌, ℕ, ◌<◌, ◌^◌, ◌++◌, List, [], All, Option, None, length, option_map}
+use Rattle.std.specs.Prelude.{◌≡◌, ℕ, ◌+◌, ◌<◌, ◌^◌, ◌++◌, List, [], All, Option, None, length, option_map, IfSome}
 use Rattle.std.specs.List.{concat}
 use Rattle.std.specs.Io.KnownBytes.{Consumes, IsAtEnd}
 use Rattle.object_heap.specs.HeapImage.{HeapImage, AreBlocks, IsValid, IsWithinLimits, heap_words, image_of, roots_or}
@@ -8,8 +8,12 @@ use Rattle.object_heap.specs.declared.version.Version.{Version}
 use Rattle.object_heap.specs.declared.version.Version.TheVariants.{One}
 use Rattle.heap_image.specs.ImageText.{text, listed_text, from_tail, first_some, first_object_fault, live_list_faults}
 use Rattle.heap_image.specs.Checks.{AreSeen}
+use Rattle.image_streams.specs.Body.{IsOfBody}
+use Rattle.image_streams.specs.Incoming.{FallsShort}
 use Rattle.image_streams.specs.Numbers.{numbers}
 use Rattle.image_streams.specs.declared.body.Body.{Body}
+use Rattle.image_streams.specs.declared.fault.Fault.{Fault}
+use Rattle.image_streams.specs.declared.fault.Fault.TheVariants.{TruncatedBody, Memory}
 use Rattle.heap_image.specs.declared.io.front.Front.{Front}
 use Rattle.heap_image.specs.declared.io.read.Unchecked.{Unchecked}
 
@@ -46,7 +50,7 @@ objects_of read = image_of read.front.region_log 0 read.regions.items read.found
 -- the live objects and the roots are those of the numbers, and only faults of the objects are left
 pub record IsFound (read : Unchecked) : Type 0 where
   pub fits : HasFittingNumbers read.front.version (numbers_of read)
-  pub blocks : AreBlocks read.front.region_log read.regions.items
+  pub regions : AreBlocks read.front.region_log read.regions.items
   pub live : read.found.live.items ≡ (from_tail read.front.version (numbers_of read)).live
   pub roots : option_map (λ v. v.items) read.found.roots ≡ (from_tail read.front.version (numbers_of read)).roots
   pub seen : AreSeen (image_of read.front.region_log 0 read.regions.items []) read.found.live.items read.found.begins read.found.well_formed
@@ -61,3 +65,9 @@ pub record IsBodyOf (front : Front) (before after : Option (List ℕ)) (body : B
   pub words : length (concat body.regions.items) ≡ front.words
   pub tail : length body.tail.items ≡ front.count
   pub tail_fit : All (λ a. a < 2 ^ 64) body.tail.items
+
+-- No body comes behind this front. The input has ended, or memory ran out after its first byte, or the device failed.
+pub record IsBodyRefusal (front : Front) (before after : Option (List ℕ)) (fault : Fault) : Type 0 where
+  pub kind : IsOfBody fault
+  pub truncated : fault ≡ TruncatedBody → FallsShort before after (front.words + front.count)
+  pub memory : fault ≡ Memory → IfSome before (λ rest. 0 < length rest)

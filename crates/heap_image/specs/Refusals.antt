@@ -46,3 +46,8 @@ IsOfFront Magic = Unit {0}
 IsOfFront RegionLog = Unit {0}
 IsOfFront Length = Unit {0}
 IsOfFront _ = ⊥
+
+-- the first fault of a front of 32 bytes
+pub record IsFaultOfFront (bytes : List ℕ) (fault : Fault) : Type 0 where
+  pub first : first_some (front_faults bytes) ≡ Some fault
+  pub kind : IsOfFront fault

@@ -2,9 +2,9 @@
 ghost use Rattle.std.specs.Prelude.{◌≡◌, ◌<◌, ◌≤◌, ◌^◌, Some, [], All, length, map, IfOk, OnOk, IfErr, IfSome};
 ghost use Rattle.std.specs.List.{concat, range_with_len};
 ghost use Rattle.object_heap.specs.HeapImage.{FormHeap, IsValid, AreBlocks, image_of, block_of, region_count};
-ghost use Rattle.heap_image.specs.Checks.{AreOfTail, IsMemoryOr, MayReport};
+ghost use Rattle.heap_image.specs.Checks.{AreOfTail, IsMemoryOr, MayReport, first_in_tail};
 ghost use Rattle.heap_image.specs.Front.{Fits, bytes_of};
-ghost use Rattle.heap_image.specs.ImageText.{text, listed_text, from_tail, front_faults, first_fault, first_some, live_list_faults};
+ghost use Rattle.heap_image.specs.ImageText.{text, listed_text, from_tail, front_faults, first_fault, first_some};
 ghost use Rattle.heap_image.specs.Reading.{HasFittingNumbers};
 ghost use Rattle.object_heap.specs.Sizes.{AreSizes};
 ghost use Rattle.heap_image.specs.Unchecked.{front_in, numbers_in};
@@ -159,8 +159,7 @@ fn find_sound_objects(
         (λ sound. AreOfTail (image_of region_log 0 regions.now []) version tail.items sound.found) }
     ensures sizes { IfOk result (λ sound. IfSome sound.sizes
         (λ sizes. AreSizes (image_of region_log 0 regions.now sound.found.live.items) sizes.items)) }
-    ensures faults { let faults = live_list_faults (from_tail version (image_of region_log 0 regions.now tail.items)) in
-        MayReport result (first_some faults) }
+    ensures faults { MayReport result (first_in_tail version (image_of region_log 0 regions.now []) tail.items) }
 {
     let heap = Heap::new(regions, region_log);
     let found = find_live_objects(alloc, &heap, version, tail, &Alone)?;

@@ -305,8 +305,7 @@ impl ImageParts {
     /// Builds the image of these parts, which keeps the addresses of its live objects as bits, and their sizes, if they
     /// are known.
     pub(crate) fn with_seen(self, begins: Option<Bits>, sizes: Option<Vec<[u32; PIECE]>>) -> Image
-        requires regions { AreBlocks self.region_log self.regions.items }
-        requires valid { IsValid (versioned_image_of self.version self.region_log self.allowance self.regions.items self.live.items (option_map (λ v. v.items) self.roots)) }
+        requires parts { AreValidParts self.version self.region_log self.allowance self.regions.items self.live.items (option_map (λ v. v.items) self.roots) }
         requires begins { IfSome begins (MarkBegins self.live.items (length (concat self.regions.items))) }
         requires sizes { IfSome sizes
             (λ sizes. AreSizes (image_of self.region_log 0 self.regions.items self.live.items) sizes.items) }

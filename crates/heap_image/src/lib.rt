@@ -3,8 +3,9 @@
 //! An [`Image`] is a heap of words in regions, the addresses of its live objects, and an allowance of dead words. Every
 //! value of the type is valid: its sizes keep the limits of the format, each live address has the header of an object
 //! that fits, no two live objects overlap, and each reference is null or leads to a live object. An image of version 1
-//! lists its live objects. An image of version 2 or 3 has roots, and its live objects are those reachable from the roots;
-//! [`mark_from_roots`] finds these, and [`upgrade`] converts version 1 to version 2, [`upgrade_to`] to any later one. Version 3 allows larger heaps.
+//! lists its live objects. An image of version 2 or 3 has roots, and its live objects are those reachable from them;
+//! [`mark_from_roots`] finds these, and [`upgrade`] converts version 1 to version 2, [`upgrade_to`] to any later one.
+//! Version 3 allows larger heaps.
 //!
 //! Each valid image has exactly one encoding, its text. [`decode`] and [`encode`] work in memory; [`read_image`] and
 //! [`write_image`] work on any [`Intake`] and [`Outlet`]; [`FromRead`] and [`ToWrite`] adapt std's readers and writers.

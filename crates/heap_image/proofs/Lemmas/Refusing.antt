@@ -22,7 +22,7 @@ use Rattle.std.specs.List.{concat}
 use Rattle.heap_image.proofs.Lemmas.Faultless.{first_some-append, first_some_past, front_faults-None, first_fault-truncated, first_fault-append}
 use Rattle.heap_image.proofs.Lemmas.TextLaws.{front_fits, length_told, length-numbers}
 use Rattle.heap_image.specs.Front.{FitsFront}
-use Rattle.heap_image.specs.Refusals.{IsReason, IsRefusal, IsOfReading, LeavesRest, IsOfFront}
+use Rattle.heap_image.specs.Refusals.{IsReason, IsRefusal, IsOfReading, LeavesRest, IsOfFront, IsFaultOfFront}
 
 -- ---- the front of a longer text
 
@@ -220,14 +220,13 @@ front_kind (Overwritten _) f = absurd f
 front_kind Gate f = absurd f
 front_kind (Root _) f = absurd f
 
-pub front_refused : {A : Type 0} (bytes : List ℕ) → length bytes ≡ 32 → (before after : Option (List ℕ)) → Consumes before after bytes → (answer : Result A Fault)
-    → IfErr answer (λ fault. first_some (front_faults bytes) ≡ Some fault) → IfErr answer IsOfFront → IfErr answer (IsRefusal before after)
-front_refused {A = A} bytes long before after taken (Ok x) first of = tt
-front_refused {A = A} bytes long before after taken (Err fault) first of = record {
-  kind = front_kind fault of;
-  reason = reason_in_front {A = A} bytes long before after taken (Err fault) first;
-  left = front_leaves {A = A} bytes long before after taken (Err fault) of;
-  memory = λ e. absurd (subst IsOfFront e of);
+pub front_refused : {A : Type 0} (bytes : List ℕ) → length bytes ≡ 32 → (before after : Option (List ℕ)) → Consumes before after bytes → (answer : Result A Fault) → IfErr answer (IsFaultOfFront bytes) → IfErr answer (IsRefusal before after)
+front_refused {A = A} bytes long before after taken (Ok x) is = tt
+front_refused {A = A} bytes long before after taken (Err fault) is = record {
+  kind = front_kind fault is.kind;
+  reason = reason_in_front {A = A} bytes long before after taken (Err fault) is.first;
+  left = front_leaves {A = A} bytes long before after taken (Err fault) is.kind;
+  memory = λ e. absurd (subst IsOfFront e is.kind);
 }
 
 pub body_kind : (fault : Fault) → ((fault ≡ Memory) ⊎ ((fault ≡ Io) ⊎ (fault ≡ TruncatedBody))) → IsOfReading fault

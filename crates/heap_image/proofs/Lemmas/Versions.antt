@@ -1,9 +1,8 @@
 -- What a version allows, by cases.
-use Rattle.std.proofs.Common.{◌≡◌, ℕ, ◌≤◌, ◌<◌, ◌^◌, false, refl, arith, not}
+use Rattle.std.proofs.Common.{◌≡◌, ℕ, ◌≤◌, false, refl, arith, not}
 use Rattle.std.proofs.lemmas.Bool.{true≢false}
 use Rattle.std.specs.Str.{bytes_eq}
-use Rattle.object_heap.specs.HeapImage.{IsWithinLimits}
-use Rattle.object_heap.specs.Version.{magic, Allows, has_roots, max_region_log, max_regions, max_words}
+use Rattle.object_heap.specs.Version.{magic, has_roots, max_region_log, max_regions, max_words}
 use Rattle.heap_image.specs.ImageText.{version_of_magic}
 use Rattle.object_heap.specs.declared.version.Version.{Version}
 use Rattle.object_heap.specs.declared.version.Version.TheVariants.{One, Two, Three}

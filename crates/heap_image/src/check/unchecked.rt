@@ -2,8 +2,8 @@
 ghost use Rattle.std.specs.Prelude.{◌≡◌, ◌<◌, ◌≤◌, ◌^◌, None, length, IfOk, IfSome, IfErr};
 ghost use Rattle.object_heap.specs.Sizes.{AreSizes};
 ghost use Rattle.object_heap.specs.HeapImage.{heap_words, with_live};
-ghost use Rattle.heap_image.specs.Checks.{AreOfTail, AreSeen, IsMemoryOr, Reports};
-ghost use Rattle.heap_image.specs.ImageText.{from_tail, first_some, first_object_fault, live_list_faults};
+ghost use Rattle.heap_image.specs.Checks.{AreOfTail, AreSeen, IsMemoryOr, Reports, first_in_tail};
+ghost use Rattle.heap_image.specs.ImageText.{first_object_fault};
 
 use super::{check_live, misplaced_index};
 use crate::marking::reach::{Reached, find_reachable};
@@ -39,8 +39,7 @@ pub(crate) fn find_live_objects<M: Marker>(
     requires few { length tail.items ≤ heap_words heap.now }
     requires fits { length tail.items < 2 ^ 32 }
     ensures found { IfOk result (AreOfTail heap.now version tail.items) }
-    ensures fault { let faults = live_list_faults (from_tail version (with_live heap.now tail.items)) in
-        IfErr result (IsMemoryOr (first_some faults)) }
+    ensures fault { IfErr result (IsMemoryOr (first_in_tail version heap.now tail.items)) }
 {
     if version.has_roots() {
         let Reached {

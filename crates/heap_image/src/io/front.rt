@@ -6,7 +6,7 @@ ghost use Rattle.heap_image.specs.ImageText.{front_faults, first_some, encoded_v
 ghost use Rattle.object_heap.specs.Version.{magic, Allows};
 ghost use Rattle.object_heap.specs.HeapImage.{IsWithinLimits};
 ghost use Rattle.heap_image.specs.LengthCause.{length_causes, first_length_cause};
-ghost use Rattle.heap_image.specs.Refusals.{IsOfFront};
+ghost use Rattle.heap_image.specs.Refusals.{IsFaultOfFront};
 ghost use Rattle.image_streams.specs.Body.{body_words};
 
 pub(crate) mod length_cause;
@@ -37,8 +37,7 @@ impl Front {
         requires { length bytes.now ≡ 32 }
         ensures bytes { IfOk result (λ parsed. bytes.now ≡ bytes_of parsed) }
         ensures fits { IfOk result Fits }
-        ensures fault { IfErr result (λ fault. first_some (front_faults bytes.now) ≡ Some fault) }
-        ensures of_front { IfErr result IsOfFront }
+        ensures fault { IfErr result (IsFaultOfFront bytes.now) }
     {
         let parsed = Front::parse_unvalidated(bytes)?;
         match parsed.length_cause() {
@@ -56,8 +55,7 @@ impl Front {
         // The only fault that such a front can have is 4.
         ensures length { IfOk result (λ parsed. first_some (front_faults bytes.now)
             ≡ option_map (λ cause. Fault.Length) (first_length_cause bytes.now)) }
-        ensures fault { IfErr result (λ fault. first_some (front_faults bytes.now) ≡ Some fault) }
-        ensures of_front { IfErr result IsOfFront }
+        ensures fault { IfErr result (IsFaultOfFront bytes.now) }
         ensures not_length { IfErr result (λ fault. fault ≢ Fault.Length) }
     {
         let Some(version) = named_version(bytes) else {

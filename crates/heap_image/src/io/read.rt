@@ -2,11 +2,11 @@
 ghost use Rattle.heap_image.specs.Checks.{Reports};
 ghost use Rattle.heap_image.specs.Front.{Fits, bytes_of};
 ghost use Rattle.heap_image.specs.ImageText.{first_object_fault};
-ghost use Rattle.heap_image.specs.Reading.{IsBodyOf, IsFound, IsRead, objects_of, text_of};
+ghost use Rattle.heap_image.specs.Reading.{IsBodyOf, IsBodyRefusal, IsFound, IsRead, objects_of, text_of};
 ghost use Rattle.heap_image.specs.Refusals.{IsRefusal};
-ghost use Rattle.image_streams.specs.Body.{IsBody, body_words, IsOfBody};
+ghost use Rattle.image_streams.specs.Body.{IsBody, body_words};
 ghost use Rattle.image_streams.specs.Device.{is_io};
-ghost use Rattle.image_streams.specs.Incoming.{IsInRange, FallsShort, expected, known_rest};
+ghost use Rattle.image_streams.specs.Incoming.{IsInRange, expected, known_rest};
 ghost use Rattle.image_streams.specs.RegionSource.{HasRegions};
 ghost use Rattle.object_heap.specs.HeapImage.{FormHeap, IsWithinLimits, image_of};
 ghost use Rattle.object_heap.specs.Sizes.{AreSizes};
@@ -121,7 +121,6 @@ impl Unchecked {
     /// The sizes of the live objects, if all of them are sound. Returns `None` also if memory runs out.
     fn sizes_if_sound<M: Marker>(&self, alloc: Global, marker: &M) -> Option<Vec<[u32; PIECE]>>
         requires marker { M.may_start }
-        requires heap { FormHeap self.now.front.region_log self.now.regions.items }
         requires found { IsFound self.now }
         ensures sound { IfSome result (λ _. first_object_fault (objects_of self.now) ≡ None) }
         ensures sizes { IfSome result (λ sizes. AreSizes (objects_of self.now) sizes.items) }
@@ -131,7 +130,6 @@ impl Unchecked {
 
     /// Checks the live objects, unless they are known to be sound.
     fn check(&self, are_sound: bool) -> Result<(), Fault>
-        requires heap { FormHeap self.now.front.region_log self.now.regions.items }
         requires found { IsFound self.now }
         requires sound { IsTrue are_sound → first_object_fault (objects_of self.now) ≡ None }
         ensures { Reports result (first_object_fault (objects_of self.now)) }
@@ -205,11 +203,7 @@ fn read_front<R: Intake>(reader: &mut R) -> Result<Front, Fault>
 fn read_body<R: Intake>(alloc: Global, reader: &mut R, front: Front) -> Result<Body, Fault>
     requires { IsWithinLimits front.region_log front.words front.count }
     ensures body { IfOk result (IsBodyOf front (R.left reader.old) (R.left reader.new)) }
-    ensures truncated { result ≡ Err Fault.TruncatedBody → FallsShort
-        (R.left reader.old) (R.left reader.new) (front.words + front.count) }
-    ensures memory { result ≡ Err Fault.Memory
-        → IfSome (R.left reader.old) (λ rest. 0 < length rest) }
-    ensures fault { IfErr result IsOfBody }
+    ensures refused { IfErr result (IsBodyRefusal front (R.left reader.old) (R.left reader.new)) }
     ensures lost { (came : List ℕ) × Consumes (R.left reader.old) (R.left reader.new) came }
     ensures failed { R.has_failed reader.new ≡ (is_io result || R.has_failed reader.old) }
 {

@@ -3,8 +3,8 @@ ghost use Rattle.std.specs.Prelude.{◌≡◌, ◌<◌, ◌≤◌, ◌^◌, None
 ghost use Rattle.std.specs.List.{concat, range_with_len};
 ghost use Rattle.object_heap.specs.declared.version.Version.TheVariants.{Two};
 ghost use Rattle.object_heap.specs.HeapImage.{FormHeap, HasLiveList, heap_words, image_of, reachable, with_live};
-ghost use Rattle.heap_image.specs.Checks.{AreSeen, IsMemoryOr, MayReport};
-ghost use Rattle.heap_image.specs.ImageText.{first_some, from_tail, live_list_faults};
+ghost use Rattle.heap_image.specs.Checks.{AreSeen, IsMemoryOr, MayReport, first_in_tail};
+ghost use Rattle.heap_image.specs.ImageText.{from_tail};
 ghost use Rattle.object_heap.specs.ObjectFaults.{misplaced_root};
 ghost use Rattle.live_objects.specs.Soundness.{AreWellFormed};
 
@@ -33,8 +33,7 @@ pub fn mark_from_roots(
     requires heap { FormHeap region_log regions.now }
     requires few { length roots.now ≤ length (concat regions.now) }
     ensures live { IfOk result (λ live. live.items ≡ reachable (image_of region_log 0 regions.now []) roots.now) }
-    ensures faults { let faults = live_list_faults (from_tail Two (image_of region_log 0 regions.now roots.now)) in
-        MayReport result (first_some faults) }
+    ensures faults { MayReport result (first_in_tail Two (image_of region_log 0 regions.now []) roots.now) }
 {
     let heap = Heap::new(regions, region_log);
     find_and_check(alloc, &heap, roots, &Alone)
@@ -53,8 +52,7 @@ pub fn mark_from_roots_by_workers(
     requires heap { FormHeap region_log regions.now }
     requires few { length roots.now ≤ length (concat regions.now) }
     ensures live { IfOk result (λ live. live.items ≡ reachable (image_of region_log 0 regions.now []) roots.now) }
-    ensures faults { let faults = live_list_faults (from_tail Two (image_of region_log 0 regions.now roots.now)) in
-        MayReport result (first_some faults) }
+    ensures faults { MayReport result (first_in_tail Two (image_of region_log 0 regions.now []) roots.now) }
 {
     let heap = Heap::new(regions, region_log);
     let crowd = Crowd {
@@ -74,8 +72,7 @@ fn find_and_check<M: Marker>(
     requires marker { M.may_start }
     requires few { length roots.now ≤ heap_words heap.now }
     ensures live { IfOk result (λ live. live.items ≡ reachable heap.now roots.now) }
-    ensures faults { let faults = live_list_faults (from_tail Two (with_live heap.now roots.now)) in
-        MayReport result (first_some faults) }
+    ensures faults { MayReport result (first_in_tail Two heap.now roots.now) }
 {
     if roots.len() > u32::MAX as usize {
         return Err(Fault::Memory);
@@ -129,8 +126,7 @@ pub(crate) fn find_reachable<M: Marker>(
     ensures seen { IfOk result
         (λ reached. AreSeen heap.now reached.live.items reached.begins reached.well_formed) }
     ensures roots { OnOk result (misplaced_root (from_tail Two (with_live heap.now roots.now)) ≡ None) }
-    ensures fault { let faults = live_list_faults (from_tail Two (with_live heap.now roots.now)) in
-        IfErr result (IsMemoryOr (first_some faults)) }
+    ensures fault { IfErr result (IsMemoryOr (first_in_tail Two heap.now roots.now)) }
 {
     reachable_is_the_least_closed();
     marks_are_listed();

@@ -1,11 +1,11 @@
 -- The bytes of the image of a parsed heap.
-use Rattle.std.proofs.Common.{◌≡◌, ℕ, ◌^◌, ◌<◌, ◌≤◌, ◌⊎◌, inl, inr, Bool, List, [], ◌++◌, length, refl, sym, ap, ◌∙◌, subst, arith, append_assoc, Option, None, Some, IfSome, is_some, Result, Ok, Err}
+use Rattle.std.proofs.Common.{◌≡◌, ℕ, ◌^◌, ◌<◌, ◌⊎◌, inl, inr, Bool, List, [], ◌++◌, length, refl, sym, ap, ◌∙◌, subst, arith, append_assoc, Option, None, Some, is_some, Result, Ok, Err}
 use Rattle.std.specs.Prelude.{if◌then◌else◌}
 use Rattle.std.proofs.lemmas.List.Concat.{flat_map-append}
 use Rattle.std.specs.Int.{w64, to_le_bytes}
 use Rattle.object_heap.specs.Version.{has_roots}
 use Rattle.object_heap.specs.declared.version.Version.{Version}
-use Rattle.object_heap.specs.HeapImage.{HeapImage, IsValid, AreRoots, heap_words, roots_or}
+use Rattle.object_heap.specs.HeapImage.{HeapImage, IsValid, heap_words, roots_or}
 use Rattle.heap_image.specs.ImageText.{front, text, with_tail}
 use Rattle.image_streams.specs.Numbers.{numbers}
 use Rattle.heap_image.specs.Reading.{HasFittingNumbers}

@@ -18,14 +18,14 @@ use Rattle.heap_commands.proofs.upgrade.upgrade_into.Goals as goal
 
 pub returns-clause-upgrade : goal.returns-clause-upgrade
 returns-clause-upgrade g c =
-    let read = c.in_ok-image.ensures in
+    let read = c.in_ok-image.ensures.read in
     let image = c.in_ok-image.image in
     let took = g.O.Outlet.took c.args.output.now in
     let took' = g.O.Outlet.took c.write_image_buffered.new.writer in
     let found : c.number-2.result ≡ number_of image.version = c.number-2.ensures ∙ ap number_of c.version.ensures.value in
     let earlier : number_of image.version ≤ number_of c.args.version = omega (arith, found, c.number.ensures, c.if-number.false) in (
       image,
-      record { valid = read.valid; text = read.text; end = read.end },
+      read,
       version_asked c.args.version image earlier,
       subst (λ (image : HeapImage). Appends took took' (text image)) c.in-Ok.ensures.upgraded c.in_ok-write_image_buffered.ensures.text,
       c.roots_line.ensures ∙ ap (λ n. codes "roots " ++ (decimal n ++ codes "\n")) (c.count_roots.ensures ∙ ap (λ (image : HeapImage). length (roots_of image)) c.in-Ok.ensures.upgraded),
@@ -34,12 +34,12 @@ returns-clause-upgrade g c =
 pub returns-in_err-write_image_buffered-clause-written : goal.returns-in_err-write_image_buffered-clause-written
 returns-in_err-write_image_buffered-clause-written g c =
     let p = err_from_is_err_and c.from_residual-in_err-write_image_buffered.result c.from_residual-in_err-write_image_buffered.ensures.1 in
-    let read = c.in_ok-image.ensures in
+    let read = c.in_ok-image.ensures.read in
     let took = g.O.Outlet.took c.args.output.now in
     let took' = g.O.Outlet.took c.write_image_buffered.new.writer in
     let begun : IsBegun c.args.version (g.R.Intake.left c.args.input.now) (g.R.Intake.left c.read_image.new.reader) took took' = record {
       image = c.in_ok-image.image;
-      read = record { valid = read.valid; text = read.text; end = read.end };
+      read = read;
       written = subst (λ (image : HeapImage). TakesBeginning took took' (text image)) c.in-Ok.ensures.upgraded c.in_err-write_image_buffered.ensures.beginning;
     } in
     rw (p.1) (inr begun)

@@ -1,16 +1,15 @@
-use Rattle.std.proofs.Common.{◌≡◌, ◌<◌, ◌^◌, ◌⊎◌, Option, Some, None, List, ℕ, length, All, map, option_map, refl, sym, ap, subst, ◌∙◌}
-use Rattle.std.specs.List.{concat, range_with_len}
-use Rattle.object_heap.specs.HeapImage.{HeapImage, IsValid, IsWithinLimits, image_of, versioned_image_of, block_of, region_count}
+use Rattle.std.proofs.Common.{◌≡◌, ◌⊎◌, Option, Some, None, List, ℕ, map, option_map, sym, ap, subst, ◌∙◌}
+use Rattle.std.specs.List.{range_with_len}
+use Rattle.object_heap.specs.HeapImage.{HeapImage, IsValid, image_of, versioned_image_of, block_of, region_count}
 use Rattle.heap_image.specs.ImageText.{from_tail, first_some, live_list_faults}
 use Rattle.heap_image.specs.Reading.{HasFittingNumbers}
 use Rattle.heap_image.specs.Unchecked.{numbers_in}
-use Rattle.object_heap.specs.Version.{Allows}
 use Rattle.heap_image.specs.declared.from_regions.UncheckedParts.{UncheckedParts}
 use Rattle.image_streams.specs.declared.fault.Fault.TheVariants.{Memory}
 use Rattle.heap_image.proofs.Lemmas.Blocks.{blocks_are}
 use Rattle.heap_image.proofs.Lemmas.FromTail.{from_tail-IsValid}
 use Rattle.heap_image.proofs.Lemmas.LiveListFaults.{IsFaultlessList}
-use Rattle.heap_image.proofs.Lemmas.Refusing.{fitting_parts, no_fault_of_parts, parts_are}
+use Rattle.heap_image.proofs.Lemmas.Refusing.{no_fault_of_parts, parts_are}
 use Rattle.heap_image.proofs.Lemmas.Unchecked.{list_reason}
 use Rattle.heap_image.proofs.from_regions.image_of_regions.Goals as goal
 
@@ -25,11 +24,12 @@ module _ (parts : UncheckedParts) (blocks : List (List ℕ)) (live : List ℕ) (
   valid : IsFaultlessList → HasFittingNumbers parts.version (numbers_in parts) → first_some (live_list_faults (from_tail parts.version (image_of parts.region_log 0 blocks parts.tail.items))) ≡ None → IsValid found
   valid faultless fits sound = subst IsValid (sym image_is) (from_tail-IsValid faultless parts.version (numbers_in parts) fits (no_fault_of_parts parts.version parts.region_log parts.allowance blocks parts.regions.items parts.tail.items same sound))
 
-pub with_seen-requires-clause-valid : goal.with_seen-requires-clause-valid
-with_seen-requires-clause-valid c =
+pub with_seen-requires-clause-parts : goal.with_seen-requires-clause-parts
+with_seen-requires-clause-parts c =
     let fits = c.in_default.ensures.fits in
-    valid c.args.parts c.as_slice.result.now c.in-Ok.sound.found.live.items (option_map (λ v. v.items) c.in-Ok.sound.found.roots) c.as_slice.ensures.value c.in-Ok.ensures.found.live c.in-Ok.ensures.found.roots c.objects_without_faults.ensures.live_list
-    fits c.in-Ok.ensures.faults.ok
+    let sound = valid c.args.parts c.as_slice.result.now c.in-Ok.sound.found.live.items (option_map (λ v. v.items) c.in-Ok.sound.found.roots) c.as_slice.ensures.value c.in-Ok.ensures.found.live c.in-Ok.ensures.found.roots c.objects_without_faults.ensures.live_list
+    fits c.in-Ok.ensures.faults.ok in
+    record { whole = c.requires.regions; valid = sound }
 
 pub returns-in-Ok-clause-image : goal.returns-in-Ok-clause-image
 returns-in-Ok-clause-image c =

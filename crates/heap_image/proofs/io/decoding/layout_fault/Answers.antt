@@ -6,7 +6,7 @@ use Rattle.heap_image.proofs.io.decoding.layout_fault.Goals as goal
 pub returns-in_err-front-clause-first : goal.returns-in_err-front-clause-first
 returns-in_err-front-clause-first c =
     let p = err_from_is_err_and c.from_residual.result c.from_residual.ensures.1 in
-    rw (p.1, p.2) (record { ok = tt; fault = front_fault_first c.args.bytes.now c.if-bytes-lt-FRONT_BYTES.false c.in_err-front.field-0.0 c.in_err-front.ensures.fault })
+    rw (p.1, p.2) (record { ok = tt; fault = front_fault_first c.args.bytes.now c.if-bytes-lt-FRONT_BYTES.false c.in_err-front.field-0.0 c.in_err-front.ensures.fault.first })
 
 pub returns-then-bytes-text_len-clause-first : goal.returns-then-bytes-text_len-clause-first
 returns-then-bytes-text_len-clause-first c =

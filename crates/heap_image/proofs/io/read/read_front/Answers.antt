@@ -21,4 +21,4 @@ returns-clause-refused g c =
     let before = g.R.Intake.left c.args.reader.now in
     let after = g.R.Intake.left c.fill.new.reader in
     let all : take c.in_ok-fill.field-0 bytes ≡ bytes = take_all c.in_ok-fill.field-0 bytes (let long : length bytes ≡ 32 = c.fill.auto.buffer in let enough = c.if-branch-lt-FRONT_BYTES.false in omega arith) in
-    front_refused bytes c.fill.auto.buffer before after (subst (λ bytes. Consumes before after bytes) all c.in_ok-fill.ensures.bytes) c.parse.result c.parse.ensures.fault c.parse.ensures.of_front
+    front_refused bytes c.fill.auto.buffer before after (subst (λ bytes. Consumes before after bytes) all c.in_ok-fill.ensures.bytes) c.parse.result c.parse.ensures.fault

@@ -1,8 +1,8 @@
-use Rattle.std.proofs.Common.{◌≡◌, ◌<◌, ◌⊎◌, ℕ, List, [], ap, sym, subst, ◌∙◌, Option, Some, Err}
+use Rattle.std.proofs.Common.{◌≡◌, ◌⊎◌, ℕ, List, [], ap, sym, subst, ◌∙◌, Option, Some}
 use Rattle.std.proofs.lemmas.Result.{err_from_is_err_and}
-use Rattle.std.specs.Prelude.{All, option_map}
+use Rattle.std.specs.Prelude.{option_map}
 use Rattle.std.specs.Io.KnownBytes.{Consumes}
-use Rattle.object_heap.specs.HeapImage.{HeapImage, heap_words, image_of, with_live}
+use Rattle.object_heap.specs.HeapImage.{HeapImage, image_of, with_live}
 use Rattle.image_streams.specs.declared.body.Body.{Body}
 use Rattle.image_streams.specs.declared.fault.Fault.TheVariants.{Memory}
 use Rattle.heap_image.specs.Checks.{AreSeen}
@@ -33,12 +33,12 @@ returns-in_err-regions-clause-refused g c =
     let middle = g.R.Intake.left c.read_front.new.reader in
     let sizes = c.in_ok-front.ensures.fits.sizes in
     let bytes = c.in_ok-front.ensures.bytes in
-    let why = c.in_err-regions.ensures in
+    let why = c.in_err-regions.ensures.refused in
     rw (p.1, p.2) (record {
-      kind = body_kind fault why.fault;
-      reason = body_reason front.version fault front.region_log front.count front.words front.allowance sizes before middle bytes why.fault (λ e. (why.truncated (ap Err e)).1);
-      left = body_leaves fault before middle (g.R.Intake.left c.read_body.new.reader) _ c.read_body.ensures.lost.0 bytes c.read_body.ensures.lost.1 why.fault (λ e. (why.truncated (ap Err e)).0);
-      memory = λ e. memory_behind_front front.version front.region_log front.count front.words front.allowance sizes before middle bytes (why.memory (ap Err e));
+      kind = body_kind fault why.kind;
+      reason = body_reason front.version fault front.region_log front.count front.words front.allowance sizes before middle bytes why.kind (λ e. (why.truncated e).1);
+      left = body_leaves fault before middle (g.R.Intake.left c.read_body.new.reader) _ c.read_body.ensures.lost.0 bytes c.read_body.ensures.lost.1 why.kind (λ e. (why.truncated e).0);
+      memory = λ e. memory_behind_front front.version front.region_log front.count front.words front.allowance sizes before middle bytes (why.memory e);
     })
 
 pub returns-in_err-found-clause-refused : goal.returns-in_err-found-clause-refused
@@ -97,7 +97,7 @@ returns-clause-found g c =
     let fits = behind_fits front c.in_ok-regions.field-0 (g.R.Intake.left c.read_front.new.reader) (g.R.Intake.left c.read_body.new.reader) c.in_ok-front.ensures.fits body in
     record {
       fits = subst (λ xs. HasFittingNumbers version (image_of log front.allowance blocks xs)) told fits;
-      blocks = body.regions;
+      regions = body.regions;
       live = found.live ∙ ap (λ heap. (from_tail version (with_live heap tail)).live) same ∙ sym (live_same version log front.allowance blocks tail) ∙ ap (λ xs. (from_tail version (image_of log front.allowance blocks xs)).live) told;
       roots = found.roots ∙ ap (λ heap. (from_tail version (with_live heap tail)).roots) same ∙ sym (roots_same version log front.allowance blocks tail) ∙ ap (λ xs. (from_tail version (image_of log front.allowance blocks xs)).roots) told;
       seen = subst (λ heap. AreSeen heap live c.in_ok-found.found.begins c.in_ok-found.found.well_formed) same found.seen;

@@ -19,7 +19,7 @@ into_image-requires-clause-valid c =
     let fits = fitting version log allowance c.args.self.limits.words blocks roots c.args.self.limits.within c.args.self.limits.allowed c.args.self.count c.args.self.fit c.args.self.few counted inside (omega arith) in
     let faultless : first_some (live_list_faults (from_tail Two (image_of log 0 blocks roots))) ≡ None =
     subst (λ xs. first_some (live_list_faults (from_tail Two (image_of log 0 xs roots))) ≡ None) c.as_slice.ensures.value
-    (subst (λ xs. first_some (live_list_faults (from_tail Two (image_of log 0 c.as_slice.result.now xs))) ≡ None) c.as_slice-2.ensures.value c.in-Ok.ensures.ok) in
+    (subst (λ xs. first_some (live_list_faults (from_tail Two (image_of log 0 c.as_slice.result.now xs))) ≡ None) c.as_slice-2.ensures.value c.in-Ok.ensures.faults.ok) in
     let reached : live ≡ reachable (image_of log 0 blocks []) roots =
     subst (λ xs. live ≡ reachable (image_of log 0 xs []) roots) c.as_slice.ensures.value
     (subst (λ xs. live ≡ reachable (image_of log 0 c.as_slice.result.now []) xs) c.as_slice-2.ensures.value c.in-Ok.ensures.live) in
@@ -41,7 +41,7 @@ of_parts-requires-clause-valid c =
     let fits = fitting Two log allowance words blocks roots c.args.self.limits.within allowed c.args.self.count c.args.self.fit c.args.self.few counted inside (omega arith) in
     let faultless : first_some (live_list_faults (from_tail Two (image_of log 0 blocks roots))) ≡ None =
     subst (λ xs. first_some (live_list_faults (from_tail Two (image_of log 0 xs roots))) ≡ None) c.as_slice.ensures.value
-    (subst (λ xs. first_some (live_list_faults (from_tail Two (image_of log 0 c.as_slice.result.now xs))) ≡ None) c.as_slice-2.ensures.value c.in-Ok.ensures.ok) in
+    (subst (λ xs. first_some (live_list_faults (from_tail Two (image_of log 0 c.as_slice.result.now xs))) ≡ None) c.as_slice-2.ensures.value c.in-Ok.ensures.faults.ok) in
     let reached : live ≡ reachable (image_of log 0 blocks []) roots =
     subst (λ xs. live ≡ reachable (image_of log 0 xs []) roots) c.as_slice.ensures.value
     (subst (λ xs. live ≡ reachable (image_of log 0 c.as_slice.result.now []) xs) c.as_slice-2.ensures.value c.in-Ok.ensures.live) in

@@ -43,7 +43,7 @@ into_image-requires-clause-valid c =
     } in
     let faultless : first_some (live_list_faults (from_tail Two (image_of log 0 blocks roots))) ≡ None =
     subst (λ xs. first_some (live_list_faults (from_tail Two (image_of log 0 xs roots))) ≡ None) c.as_slice-3.ensures.value
-    (subst (λ xs. first_some (live_list_faults (from_tail Two (image_of log 0 c.as_slice-3.result.now xs))) ≡ None) c.as_slice-4.ensures.value c.in-Ok.ensures.ok) in
+    (subst (λ xs. first_some (live_list_faults (from_tail Two (image_of log 0 c.as_slice-3.result.now xs))) ≡ None) c.as_slice-4.ensures.value c.in-Ok.ensures.faults.ok) in
     let reached : live ≡ reachable (image_of log 0 blocks []) roots =
     subst (λ xs. live ≡ reachable (image_of log 0 xs []) roots) c.as_slice-3.ensures.value
     (subst (λ xs. live ≡ reachable (image_of log 0 c.as_slice-3.result.now []) xs) c.as_slice-4.ensures.value c.in-Ok.ensures.live) in

@@ -89,11 +89,11 @@ returns-then-branch-gt0-clause-refused g c = λ before read.
       memory = search rules;
     }
 
-pub with_seen-requires-clause-valid : goal.with_seen-requires-clause-valid
-with_seen-requires-clause-valid g c =
+pub with_seen-requires-clause-parts : goal.with_seen-requires-clause-parts
+with_seen-requires-clause-parts g c =
     let found = c.requires.found in
     let sound = found.ordered ∙ no_fault c.args.checked c.in_ok-checked.field-0 _ c.in_ok-checked.was c.requires.checked.ok in
-    subst IsValid (sym (parts_of c.args.self found.live found.roots)) (from_tail-IsValid c.objects_without_faults.ensures.live_list c.args.self.front.version (numbers_of c.args.self) found.fits sound)
+    record { whole = found.regions; valid = subst IsValid (sym (parts_of c.args.self found.live found.roots)) (from_tail-IsValid c.objects_without_faults.ensures.live_list c.args.self.front.version (numbers_of c.args.self) found.fits sound) }
 
 pub returns-clause-read : goal.returns-clause-read
 returns-clause-read g c = λ before read.
