@@ -179,7 +179,8 @@ impl Region {
         ensures value { self.new ≡ replicate (length self.old) 0 }
         ensures same_length { length self.new ≡ length self.old }
     {
-        if self.block.words().len() > HIDDEN_WORDS {
+        let is_large = self.block.words().len() > HIDDEN_WORDS;
+        if is_large {
             zero(self.block.words_mut());
         }
         self.home.set_clear(true);
