@@ -1,3 +1,4 @@
 pub mod Whole
 pub mod Places
 pub mod Blocks
+pub mod Images

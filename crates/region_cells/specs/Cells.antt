@@ -1,12 +1,17 @@
 -- The invariant of the cells of an image.
-use Rattle.std.specs.Prelude.{◌≡◌, ℕ, ◌≤◌, List, drop, map, option_map}
+use Rattle.std.specs.Prelude.{◌≡◌, ℕ, ◌≤◌, List, [], ◌∷◌, drop, map, option_map}
 use Rattle.std.specs.List.{range_with_len}
 use Rattle.std.specs.Vec.{vec_capacity}
-use Rattle.object_heap.specs.HeapImage.{HeapImage, IsValid, region_count}
+use Rattle.object_heap.specs.HeapImage.{HeapImage, IsValid, region_count, versioned_image_of}
 use Rattle.heap_image.specs.declared.image.ImageParts.{ImageParts}
 use Rattle.summary.specs.RegionData.{fill_count}
 use Rattle.region_cells.specs.Blocks.{blocks_of}
 use Rattle.region_cells.specs.Views.{ImageRegion}
+
+-- the image that these places belong to; if there are none, that of these parts
+abbrev pub image_in : List ImageRegion → ImageParts → HeapImage
+image_in [] parts = versioned_image_of parts.version parts.region_log parts.allowance parts.regions.items parts.live.items (option_map (λ v. v.items) parts.roots)
+image_in (place ∷ places) parts = place.image
 
 module _ (image : HeapImage) where
   abbrev pub place_of : ℕ → ImageRegion

@@ -33,28 +33,23 @@ pub struct Cells {
     slots: Vec<Counted<Kept>>,
     // `regions` are those after them, with room for all.
     parts: ImageParts,
-    image: Snapshot<Image>,
 }
 
 impl Drop for Cells {
     fn drop(self) {
-        let Self {
-            slots,
-            parts,
-            image,
-        } = self;
+        let Self { slots, parts } = self;
     }
 }
 
 impl Model for Cells {
     ghost use Rattle.object_heap.specs.HeapImage.{HeapImage};
-    ghost use Rattle.region_cells.specs.Cells.{AreCells};
+    ghost use Rattle.region_cells.specs.Cells.{image_in, AreCells};
 
     ghost Value = { HeapImage };
 
-    ghost view = { λ c. c.image.value };
+    ghost view = { λ c. image_in c.slots.items c.parts };
 
-    ghost invariant = { λ c. AreCells c.image.value c.slots.items c.parts };
+    ghost invariant = { λ c. AreCells (image_in c.slots.items c.parts) c.slots.items c.parts };
 }
 
 impl Cells {
@@ -72,15 +67,10 @@ impl Cells {
         let Ok(mut slots) = Vec::with_capacity(alloc, count) else {
             return Err(image);
         };
-        let snapshot = Snapshot::of(&image);
         let first = Place::first(&image);
         let mut parts = image.into_parts();
         put_all(&mut slots, &mut parts.regions, count, first);
-        Ok(Cells {
-            slots,
-            parts,
-            image: snapshot,
-        })
+        Ok(Cells { slots, parts })
     }
 
     /// Opens the region of `opening` for reading.
@@ -165,11 +155,7 @@ impl Cells {
     {
         blocks_of_regions();
         regions_to_fill();
-        let Cells {
-            slots,
-            mut parts,
-            image: _,
-        } = self;
+        let Cells { slots, mut parts } = self;
         match put_back(slots, &mut parts.regions, true) {
             Ok(()) => Ok(parts),
             Err(region) => Err(Fault::Overwritten(region)),
@@ -181,11 +167,7 @@ impl Cells {
         ensures { IfSome result (λ image. image ≡ self) }
     {
         regions_to_fill();
-        let Cells {
-            slots,
-            mut parts,
-            image: _,
-        } = self;
+        let Cells { slots, mut parts } = self;
         match put_back(slots, &mut parts.regions, false) {
             Ok(()) => Some(parts.into_image()),
             Err(_) => None,

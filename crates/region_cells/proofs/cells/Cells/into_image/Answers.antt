@@ -2,6 +2,7 @@ use Rattle.std.proofs.Common.{◌≡◌, length, ap, sym, subst, ◌∙◌, arit
 use Rattle.std.specs.Prelude.{option_map}
 use Rattle.object_heap.specs.HeapImage.{IsValid, AreBlocks}
 use Rattle.region_cells.specs.Blocks.{blocks_of}
+use Rattle.region_cells.specs.Cells.{image_in}
 use Rattle.region_cells.proofs.Lemmas.Blocks.{originals_again}
 use Rattle.region_cells.proofs.Lemmas.Places.{length-places, length-others}
 use Rattle.region_cells.proofs.Lemmas.Whole.{are_blocks, whole_again}
@@ -9,19 +10,19 @@ use Rattle.region_cells.proofs.cells.Cells.into_image.Goals as goal
 
 pub put_back-requires-clause-few : goal.put_back-requires-clause-few
 put_back-requires-clause-few c =
-    let image = c.self.inside.image.value in
+    let image = image_in c.self.inside.slots.items c.self.inside.parts in
     let cells = c.self.invariant in
     omega (arith, ap length cells.slots_are, length-places image, c.regions_to_fill.ensures.few image cells.valid, cells.valid.limits.few_regions)
 
 pub put_back-requires-clause-room : goal.put_back-requires-clause-room
 put_back-requires-clause-room c =
-    let image = c.self.inside.image.value in
+    let image = image_in c.self.inside.slots.items c.self.inside.parts in
     let cells = c.self.invariant in
     omega (arith, ap length cells.slots_are, length-places image, ap length cells.parts_are.regions, length-others image, c.self.inside.parts.regions.ok.0, c.regions_to_fill.ensures.few image cells.valid, cells.parts_are.room)
 
 pub into_image-requires-clause-regions : goal.into_image-requires-clause-regions
 into_image-requires-clause-regions c =
-    let image = c.self.inside.image.value in
+    let image = image_in c.self.inside.slots.items c.self.inside.parts in
     let cells = c.self.invariant in
     let few = c.regions_to_fill.ensures.few image cells.valid in
     let blocks : c.put_back.new.regions.items ≡ blocks_of image =
@@ -30,7 +31,7 @@ into_image-requires-clause-regions c =
 
 pub into_image-requires-clause-valid : goal.into_image-requires-clause-valid
 into_image-requires-clause-valid c =
-    let image = c.self.inside.image.value in
+    let image = image_in c.self.inside.slots.items c.self.inside.parts in
     let cells = c.self.invariant in
     let parts = c.self.inside.parts in
     let others = cells.parts_are in
@@ -43,7 +44,7 @@ into_image-requires-clause-valid c =
 
 pub returns-in-Ok : goal.returns-in-Ok
 returns-in-Ok c =
-    let image = c.self.inside.image.value in
+    let image = image_in c.self.inside.slots.items c.self.inside.parts in
     let cells = c.self.invariant in
     let parts = c.self.inside.parts in
     let others = cells.parts_are in

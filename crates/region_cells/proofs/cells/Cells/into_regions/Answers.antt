@@ -1,18 +1,18 @@
 use Rattle.std.proofs.Common.{length, ap, subst, refl, arith}
-use Rattle.region_cells.specs.Cells.{AreCells}
+use Rattle.region_cells.specs.Cells.{image_in, AreCells}
 use Rattle.region_cells.proofs.Lemmas.Blocks.{block_left, moved_again}
 use Rattle.region_cells.proofs.Lemmas.Places.{length-places, length-others}
 use Rattle.region_cells.proofs.cells.Cells.into_regions.Goals as goal
 
 pub put_back-requires-clause-few : goal.put_back-requires-clause-few
 put_back-requires-clause-few c =
-    let image = c.self.inside.image.value in
+    let image = image_in c.self.inside.slots.items c.self.inside.parts in
     let cells = c.self.invariant in
     omega (arith, ap length cells.slots_are, length-places image, c.regions_to_fill.ensures.few image cells.valid, cells.valid.limits.few_regions)
 
 pub put_back-requires-clause-room : goal.put_back-requires-clause-room
 put_back-requires-clause-room c =
-    let image = c.self.inside.image.value in
+    let image = image_in c.self.inside.slots.items c.self.inside.parts in
     let cells = c.self.invariant in
     omega (arith, ap length cells.slots_are, length-places image, ap length cells.parts_are.regions, length-others image, c.self.inside.parts.regions.ok.0, c.regions_to_fill.ensures.few image cells.valid, cells.parts_are.room)
 
