@@ -1,7 +1,8 @@
 -- Marks while they grow, and the addresses whose references are still to be followed.
-use Rattle.std.specs.Prelude.{◌≡◌, ◌⊎◌, ℕ, ◌+◌, ◌/◌, ◌<◌, ◌≤◌, Bool, true, false, not, IsTrue, List, All, Contains, length, count_by, map}
+use Rattle.std.specs.Prelude.{◌≡◌, ◌⊎◌, ℕ, ◌+◌, ◌/◌, ◌<◌, ◌≤◌, Bool, true, false, not, IsTrue, List, [], All, Contains, length, count_by, map, Vec}
 use Rattle.std.specs.List.{list_any, range_with_len}
-use Rattle.object_heap.specs.HeapImage.{HeapImage, heap_words, references_at, reference_at, is_unsound, leads_to, refers_to, reachable}
+use Rattle.std.specs.Vec.{vec_capacity}
+use Rattle.object_heap.specs.HeapImage.{HeapImage, heap_words, word_at, references_at, reference_at, is_unsound, leads_to, refers_to, reachable}
 use Rattle.object_heap.specs.Bits.{has}
 use Rattle.object_heap.specs.Reachable.{is_listed}
 use Rattle.heap_marking.specs.declared.marking.Waiting.{Waiting}
@@ -13,6 +14,23 @@ unmarked words bits = count_by (λ a. not (has bits a)) (range_with_len 0 words)
 -- the addresses of the objects that wait
 abbrev pub waiting_addresses : List Waiting → List ℕ
 waiting_addresses batch = map (λ w. w.address) batch
+
+-- the headers of these objects are those in the heap
+abbrev pub AreFetched : HeapImage → List Waiting → Type 0
+AreFetched image batch = All (λ w. w.header ≡ word_at image w.address) batch
+
+-- a batch is empty, and has room for 64 objects
+pub record IsReadyBatch {Z : Type 0} (batch : Vec Waiting Z) : Type 0 where
+  pub empty : batch.items ≡ []
+  pub room : 64 ≤ vec_capacity batch
+
+-- the flag is set only where it was and this holds
+abbrev pub Notes : Bool → Bool → Type 0 → Type 0
+Notes old new noted = IsTrue new → IsTrue old × noted
+
+-- one of these references leads to b
+abbrev pub leads_any : List ℕ → ℕ → Bool
+leads_any references b = list_any (λ w. leads_to w b) references
 
 -- the addresses on the stack are below the number of words, and marked
 abbrev pub AreStacked : ℕ → List ℕ → List ℕ → Type 0

@@ -14,6 +14,13 @@ pub record IsUnmarked (p : Part) : Type 0 where
   pub clear : (i : ℕ) → has p.bits i ≡ false
   pub empty : p.stack.items ≡ []
 
+-- a part without marks, beside this number of parts in all
+pub record IsNew (log begin parts : ℕ) (p : Part) : Type 0 where
+  pub first : p.first ≡ begin
+  pub bits : 2 ^ log < 64 * length p.bits
+  pub out : length p.out ≡ parts
+  pub unmarked : IsUnmarked p
+
 module _ (log : ℕ) where
   -- the mark of an address
   abbrev pub mark_of : List Part → ℕ → Part → Bool

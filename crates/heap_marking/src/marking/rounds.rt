@@ -1,7 +1,7 @@
 //! Rounds of threads, each of which marks in parts of its own.
 ghost use Rattle.std.specs.Prelude.{◌≡◌, ◌<◌, ◌≤◌, ◌⊎◌, All, List, ℕ, false, IfOk, OnOk, IsTrue, length};
 ghost use Rattle.object_heap.specs.HeapImage.{heap_words};
-ghost use Rattle.heap_marking.specs.Spread.{IsPart, AreWaiting, AreRows, IsRoundOf};
+ghost use Rattle.heap_marking.specs.Spread.{IsReady, IsRoundOf};
 ghost use Rattle.heap_marking.specs.Rounds.{IsLayout, IsState, HaveTurned, IsSwapped, AreExchanged};
 
 use super::boxes::Boxes;
@@ -136,8 +136,7 @@ impl Rounds {
         let log = self.log;
         let sent = self.sent.as_slice();
         let work = |_: usize, part: &mut Part|
-            requires { (log ≤ 30) × IsPart log (heap_words heap.now) part.old × AreWaiting log (heap_words heap.now) part.old
-                × AreRows log (heap_words heap.now) sent.now }
+            requires { IsReady log (heap_words heap.now) sent.now part.old }
             ensures { IsTrue part.new.failed ⊎ IsRoundOf log heap.entry.now sent.entry.now part.old part.new }
         { part.round(alloc, heap, log, sent) };
         for_each_mut(crowd.threads, self.parts.as_mut_slice(), crowd.most, &work);
