@@ -98,9 +98,10 @@ module _ (log : ℕ) (image : HeapImage) (roots : List ℕ) where
   words_of = heap_words image
 
   pub layout_begins : (parts : List Part) (rows : List (List (List ℕ))) (count : ℕ)
-      → ((b : ℕ) → b < words_of → b / 2 ^ log < count) → length parts ≡ count → AreParts log image parts
+      → log ≤ 30 → ((b : ℕ) → b < words_of → b / 2 ^ log < count) → length parts ≡ count → AreParts log image parts
       → length rows ≡ count → ((j : ℕ) (d : List (List ℕ)) → j < length rows → length (get_or rows j d) ≡ count) → IsLayout log image parts rows
-  layout_begins parts rows count inside parts_count parts_are rows_count rows_are = record {
+  layout_begins parts rows count small inside parts_count parts_are rows_count rows_are = record {
+    small = small;
     count = λ b l. let i = inside b l in omega (arith, i, parts_count);
     rows = rows_count ∙ sym parts_count;
     boxes = λ j d l b m. let i = inside b m in let r = rows_are j d l in omega (arith, i, r);

@@ -70,6 +70,7 @@ module _ (log : ℕ) where
 
     pub turned_layout : IsLayout log image parts' sent'
     turned_layout = record {
+      small = layout.small;
       count = λ b l. let same = long in let was = layout.count b l in omega (arith, same, was);
       rows = exchanged.sent_count ∙ layout.rows ∙ sym long;
       boxes = λ j e l b m.

@@ -21,11 +21,11 @@ returns c =
     let p' : Part = c.mark.new.self in
     on_ok_weaker c.mark.result
     (λ taken.
-        let now = taken c.args.words low in
-        record {
-          spread = spread_as log c.args.words (leads_to w) (λ b. leads_to w b && is_in log p b) p p' (target_in log w a p same inside)
-              (subst (λ x. IsSpread log c.args.words (leads_to x) p p') (sym same) now.spread);
-          out = now.out;
-          well_formed = now.well_formed;
-        })
+    let now = taken c.args.words low in
+    record {
+      spread = spread_as log c.args.words (leads_to w) (λ b. leads_to w b && is_in log p b) p p' (target_in log w a p same inside)
+          (subst (λ x. IsSpread log c.args.words (leads_to x) p p') (sym same) now.spread);
+      out = now.out;
+      well_formed = now.well_formed;
+    })
     c.mark.ensures
