@@ -5,7 +5,7 @@ use Rattle.object_heap.specs.HeapImage.{HeapImage, heap_words, leads_to, refers_
 use Rattle.object_heap.specs.Bits.{has}
 use Rattle.heap_marking.specs.Marking.{IsMarking, IsWellFormed}
 use Rattle.object_heap.specs.Reachable.{IsClosed}
-use Rattle.heap_marking.specs.Boxes.{arrives}
+use Rattle.heap_marking.specs.Boxes.{arrives, leads}
 use Rattle.heap_marking.specs.Spread.{Marks, Sends, AreSent, AreWaiting, IsPart, AreRows, IsRoundOf}
 use Rattle.heap_marking.specs.declared.marking.Marking.{Marking}
 use Rattle.heap_marking.specs.declared.marking.part.Part.{Part}
@@ -138,3 +138,26 @@ module _ (image : HeapImage) where
   pub record IsContinued (rounds : Rounds) (m : Marking) : Type 0 where
     pub words : m.words ≡ heap_words image
     pub marking : (roots : List ℕ) → HasState roots rounds → IsMarking image roots m.bits m.stack.items m.well_formed
+
+-- this number of parts covers the heap, and each is needed
+pub record IsPartCount (log words count : ℕ) : Type 0 where
+  pub inside : (b : ℕ) → b < words → b / 2 ^ log < count
+  pub needed : (k : ℕ) → k < count → k * 2 ^ log < words
+
+-- these are this number of parts of the heap, without marks
+pub record AreUnmarked (log : ℕ) (image : HeapImage) (size : ℕ) (row : List Part) : Type 0 where
+  pub count : length row ≡ size
+  pub parts : AreParts log image row
+  pub clear : (k : ℕ) (d : Part) → k < length row → IsUnmarked (slice_index_or row k d)
+
+-- the roots are in this number of boxes, each in that of the part of its target
+pub record IsRootRow (log words size : ℕ) (roots : List ℕ) (row : List (List ℕ)) : Type 0 where
+  pub count : length row ≡ size
+  pub sent : (b : ℕ) → b < words → list_any (λ w. leads_to w b) roots ≡ true → Sends log row b
+  pub sound : AreSent log words (λ b. list_any (λ w. leads_to w b) roots) row
+
+-- this number of rows, of as many boxes each, has what this row has
+pub record AreRowsOf (size : ℕ) (row : List (List ℕ)) (sent : List (List (List ℕ))) : Type 0 where
+  pub count : length sent ≡ size
+  pub boxes : (j : ℕ) (d : List (List ℕ)) → j < length sent → length (slice_index_or sent j d) ≡ size
+  pub same : (k b : ℕ) → arrives sent k b ≡ leads row k b
