@@ -4,7 +4,7 @@
 //! the live addresses. If the objects are known to be well-formed,
 //! only their headers are read. The result only says whether all objects are sound: `check` finds the first fault.
 //! No object waits for another one, so that the processor reads some headers and references ahead by itself.
-ghost use Rattle.std.specs.Prelude.{◌≡◌, ◌<◌, ◌≤◌, ◌+◌, ◌*◌, ◌/◌, ◌%◌, ℕ, All, IfSome, IsTrue, OnOk, IfOk, length, [], List, slice_index, slice_index_or};
+ghost use Rattle.std.specs.Prelude.{◌≡◌, ◌<◌, ◌≤◌, ◌+◌, ◌*◌, ◌/◌, ◌%◌, ℕ, All, IfSome, IsTrue, IfOk, length, [], List, slice_index, slice_index_or};
 ghost use Rattle.object_heap.specs.HeapImage.{HasLiveList, heap_words, is_null_or_live, size_at, with_live, word_at};
 ghost use Rattle.object_heap.specs.Bits.{MarkBegins};
 ghost use Rattle.object_heap.specs.Sizes.{AreSizes};

@@ -1,9 +1,7 @@
 //! The marks of one part of a heap.
-ghost use Rattle.std.specs.Prelude.{◌≡◌, ℕ, ◌+◌, ◌-◌, ◌*◌, ◌/◌, ◌^◌, ◌<◌, ◌≤◌, ◌⊎◌, ◌&&◌, List, [], All, ◌++◌, take, Contains, false, IfOk, OnOk, IsTrue, length};
-ghost use Rattle.std.specs.List.{list_any};
+ghost use Rattle.std.specs.Prelude.{◌≡◌, ℕ, ◌+◌, ◌*◌, ◌/◌, ◌^◌, ◌<◌, ◌≤◌, ◌⊎◌, ◌&&◌, [], All, ◌++◌, take, Contains, IfOk, OnOk, IsTrue, length};
 ghost use Rattle.std.specs.Vec.{vec_capacity};
 ghost use Rattle.object_heap.specs.HeapImage.{heap_words, word_at, leads_to, refers_to};
-ghost use Rattle.object_heap.specs.Bits.{has};
 ghost use Rattle.heap_marking.specs.Boxes.{arrives};
 ghost use Rattle.heap_marking.specs.Marking.{AreFetched, IsReadyBatch, IsWellFormed, Notes, leads_any, waiting_addresses};
 ghost use Rattle.heap_marking.specs.Rounds.{IsNew};
