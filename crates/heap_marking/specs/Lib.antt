@@ -2,3 +2,4 @@ pub mod Marking
 pub mod Boxes
 pub mod Spread
 pub mod Rounds
+pub mod LiveList

@@ -1,9 +1,11 @@
 -- What one part of the heap has marked, what waits there, and what it sends to the other parts.
-use Rattle.std.specs.Prelude.{◌≡◌, ◌⊎◌, ℕ, ◌+◌, ◌-◌, ◌*◌, ◌/◌, ◌^◌, ◌<◌, ◌≤◌, Bool, ◌&&◌, nat_le, nat_lt, true, IsTrue, List, All, Contains, length}
+use Rattle.std.specs.Prelude.{◌≡◌, ◌⊎◌, ℕ, ◌+◌, ◌-◌, ◌*◌, ◌/◌, ◌^◌, ◌<◌, ◌≤◌, ◌++◌, Bool, ◌&&◌, nat_le, nat_lt, true, IsTrue, List, [], All, Contains, length, Vec}
+use Rattle.std.specs.Vec.{vec_capacity}
 use Rattle.object_heap.specs.HeapImage.{HeapImage, heap_words, refers_to}
 use Rattle.object_heap.specs.Bits.{has}
-use Rattle.heap_marking.specs.Marking.{unmarked, IsWellFormed}
+use Rattle.heap_marking.specs.Marking.{unmarked, waiting_addresses, AreFetched, IsWellFormed}
 use Rattle.heap_marking.specs.Boxes.{leads, arrives}
+use Rattle.heap_marking.specs.declared.marking.Waiting.{Waiting}
 use Rattle.heap_marking.specs.declared.marking.part.Part.{Part}
 
 module _ (log : ℕ) where
@@ -61,8 +63,15 @@ module _ (log : ℕ) where
       pub inside : AreWaiting p → AreWaiting p'
       pub total : length p'.stack.items + open_in p' ≡ length p.stack.items + open_in p
 
-    -- the part has room for its marks, and a box for each part of the heap
+    -- the same, and nothing is sent or noted
+    pub record IsTaken (targets : ℕ → Bool) (p p' : Part) : Type 0 where
+      pub spread : IsSpread targets p p'
+      pub out : p'.out ≡ p.out
+      pub well_formed : p'.well_formed ≡ p.well_formed
+
+    -- the part is of a size that there is, has room for its marks, and a box for each part of the heap
     pub record IsPart (p : Part) : Type 0 where
+      pub small : log ≤ 30
       pub inside : p.first < words
       pub bits : 2 ^ log < 64 * length p.bits
       pub boxes : (b : ℕ) → b < words → b / 2 ^ log < length p.out
@@ -70,6 +79,12 @@ module _ (log : ℕ) where
     -- each of these rows has a box for each part of the heap
     abbrev pub AreRows : List (List (List ℕ)) → Type 0
     AreRows sent = All (λ boxes. (b : ℕ) → b < words → b / 2 ^ log < length boxes) sent
+
+    -- the part can do its work of a round in which these rows of boxes arrive
+    pub record IsReady (sent : List (List (List ℕ))) (p : Part) : Type 0 where
+      pub part : IsPart p
+      pub waiting : AreWaiting p
+      pub rows : AreRows sent
 
   module _ (image : HeapImage) where
     -- all references of the object at a are held, and it is well-formed if the flag of the part is set
@@ -96,3 +111,27 @@ module _ (log : ℕ) where
     -- the part has done its work of a round
     abbrev pub IsRoundOf : List (List (List ℕ)) → Part → Part → Type 0
     IsRoundOf sent p0 p = IsRunning sent p0 p p.stack.items
+
+    -- a part that was on its way in a round, with this pending, still is, with what is on its stack
+    abbrev pub RunsOn : Part → List ℕ → Part → Type 0
+    RunsOn p pending p' = (sent : List (List (List ℕ))) → (p0 : Part) → IsRunning sent p0 p pending → IsRoundOf sent p0 p'
+
+    -- the objects of the batch are followed, and it is empty
+    pub record IsBatchFollowed {Z : Type 0} (p p' : Part) (batch batch' : Vec Waiting Z) : Type 0 where
+      pub running : RunsOn p (p.stack.items ++ waiting_addresses batch.items) p'
+      pub part : IsPart (heap_words image) p'
+      pub inside : AreWaiting (heap_words image) p'
+      pub total : length p'.stack.items + open_in p' ≡ length p.stack.items + open_in p
+      pub empty : batch'.items ≡ []
+      pub batch_capacity : vec_capacity batch' ≡ vec_capacity batch
+
+-- the top of the part's stack is in the batch, with its headers
+pub record IsBatchTaken {Z : Type 0} (image : HeapImage) (p p' : Part) (batch batch' : Vec Waiting Z) : Type 0 where
+  pub first : p'.first ≡ p.first
+  pub bits : p'.bits ≡ p.bits
+  pub out : p'.out ≡ p.out
+  pub well_formed : p'.well_formed ≡ p.well_formed
+  pub cut : p.stack.items ≡ p'.stack.items ++ waiting_addresses batch'.items
+  pub fetched : AreFetched image batch'.items
+  pub some : 0 < length p.stack.items → 0 < length batch'.items
+  pub batch_capacity : vec_capacity batch' ≡ vec_capacity batch

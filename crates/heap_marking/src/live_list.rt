@@ -1,4 +1,5 @@
 //! Makes a live list of mark bits, in one thread or in parts by several.
+ghost use Rattle.heap_marking.specs.LiveList.{IsRange, MayWrite, addresses_from};
 ghost use Rattle.std.specs.Prelude.{◌≡◌, ◌<◌, ◌≤◌, ◌+◌, ◌^◌, ◌++◌, OnOk, IfOk, length, map, take};
 ghost use Rattle.object_heap.specs.Bits.{addresses_between, addresses_of, ones_of};
 
@@ -55,15 +56,12 @@ struct ListWriter<'a, T: Threads + Sync> {
 impl<T: Threads + Sync> ListWriter<'_, T> {
     /// Writes all addresses. An extra thread does nothing: the system delays the first one that the caller starts.
     fn start(&self, list: &mut [u64])
-        requires few { length self.now.words.now < 2 ^ 58 }
-        requires share { 0 < self.now.share }
-        requires room { length list.old ≡ length (addresses_between self.now.words.now 0 (length self.now.words.now)) }
-        ensures { list.new ≡ addresses_between self.now.words.now 0 (length self.now.words.now) }
+        requires { MayWrite self.now.words.now self.now.share 0 (length list.old) }
+        ensures { list.new ≡ addresses_from self.now.words.now 0 }
     {
         let mut write = ||
-            requires { (length self.now.words.now < 2 ^ 58) × (0 < self.now.share)
-                × (length list.now ≡ length (addresses_between self.now.words.now 0 (length self.now.words.now))) }
-            ensures { list.exit.now ≡ addresses_between self.entry.now.words.now 0 (length self.entry.now.words.now) }
+            requires { MayWrite self.now.words.now self.now.share 0 (length list.now) }
+            ensures { list.exit.now ≡ addresses_from self.entry.now.words.now 0 }
         { self.write(0, list) };
         join_mut(self.threads, &mut || {}, &mut write);
     }
@@ -72,11 +70,8 @@ impl<T: Threads + Sync> ListWriter<'_, T> {
     /// this one starts.
     #[cycle(parts)]
     fn write(&self, first: usize, list: &mut [u64])
-        requires few { length self.now.words.now < 2 ^ 58 }
-        requires share { 0 < self.now.share }
-        requires inside { first ≤ length self.now.words.now }
-        requires room { length list.old ≡ length (addresses_between self.now.words.now first (length self.now.words.now)) }
-        ensures { list.new ≡ addresses_between self.now.words.now first (length self.now.words.now) }
+        requires { MayWrite self.now.words.now self.now.share first (length list.old) }
+        ensures { list.new ≡ addresses_from self.now.words.now first }
     {
         let words = self.words;
         let rest = words.len() - first;
@@ -92,26 +87,20 @@ impl<T: Threads + Sync> ListWriter<'_, T> {
     /// Writes the addresses of a share of words from index `first` on, in a new thread, and those of the words after it.
     #[cycle(parts)]
     fn write_both(&self, first: usize, low: &mut [u64], high: &mut [u64])
-        requires few { length self.now.words.now < 2 ^ 58 }
-        requires share { 0 < self.now.share }
-        requires inside { first + self.now.share ≤ length self.now.words.now }
         requires low { length low.old ≡ length (addresses_between self.now.words.now first (first + self.now.share)) }
-        requires high { length high.old
-            ≡ length (addresses_between self.now.words.now (first + self.now.share) (length self.now.words.now)) }
+        requires high { MayWrite self.now.words.now self.now.share (first + self.now.share) (length high.old) }
         ensures low { low.new ≡ addresses_between self.now.words.now first (first + self.now.share) }
-        ensures high { high.new ≡ addresses_between self.now.words.now (first + self.now.share) (length self.now.words.now) }
+        ensures high { high.new ≡ addresses_from self.now.words.now (first + self.now.share) }
     {
         let words = self.words;
         let middle = first + self.share;
         let mut lower = ||
-            requires { (length words.now < 2 ^ 58) × (first ≤ middle) × (middle ≤ length words.now)
-                × (length low.now ≡ length (addresses_between words.now first middle)) }
+            requires { IsRange words.now first middle × (length low.now ≡ length (addresses_between words.now first middle)) }
             ensures { low.exit.now ≡ addresses_between words.entry.now first middle }
         { write_between(words, first, middle, low) };
         let mut upper = ||
-            requires { (length self.now.words.now < 2 ^ 58) × (0 < self.now.share) × (middle ≤ length self.now.words.now)
-                × (length high.now ≡ length (addresses_between self.now.words.now middle (length self.now.words.now))) }
-            ensures { high.exit.now ≡ addresses_between self.entry.now.words.now middle (length self.entry.now.words.now) }
+            requires { MayWrite self.now.words.now self.now.share middle (length high.now) }
+            ensures { high.exit.now ≡ addresses_from self.entry.now.words.now middle }
         { self.write(middle, high) };
         join_mut(self.threads, &mut lower, &mut upper);
     }
@@ -119,9 +108,7 @@ impl<T: Threads + Sync> ListWriter<'_, T> {
 
 /// The number of addresses that [`marked_between`] lists.
 fn ones_between(words: &[u64], first: usize, last: usize) -> usize
-    requires few { length words.now < 2 ^ 58 }
-    requires ordered { first ≤ last }
-    requires inside { last ≤ length words.now }
+    requires { IsRange words.now first last }
     ensures { result ≡ length (addresses_between words.now first last) }
 {
     ones_of(&words[first..last]) as usize
@@ -129,9 +116,7 @@ fn ones_between(words: &[u64], first: usize, last: usize) -> usize
 
 /// Writes the addresses that [`marked_between`] lists to a slice that has room for just these.
 fn write_between(words: &[u64], first: usize, last: usize, list: &mut [u64])
-    requires few { length words.now < 2 ^ 58 }
-    requires ordered { first ≤ last }
-    requires inside { last ≤ length words.now }
+    requires range { IsRange words.now first last }
     requires room { length list.old ≡ length (addresses_between words.now first last) }
     ensures { list.new ≡ addresses_between words.now first last }
 {
@@ -168,9 +153,7 @@ fn marked_between(
     first: usize,
     last: usize,
 ) -> Result<Vec<u64>, AllocError>
-    requires few { length words.now < 2 ^ 58 }
-    requires ordered { first ≤ last }
-    requires inside { last ≤ length words.now }
+    requires { IsRange words.now first last }
     ensures { IfOk result (λ live. live.items ≡ addresses_between words.now first last) }
 {
     let mut live = Vec::with_capacity(alloc, ones_between(words, first, last))?;

@@ -2,12 +2,9 @@
 //!
 //! Several threads mark in rounds, each in parts of the heap of its own. Where rounds don't pay any more, one thread goes
 //! on from the marks so far.
-ghost use Rattle.std.specs.Prelude.{◌≡◌, ◌<◌, ◌≤◌, ◌+◌, ◌/◌, ◌==◌, ◌||◌, ◌++◌, ℕ, List, [], All, length, IfOk, OnOk, IsTrue};
-ghost use Rattle.std.specs.List.{list_any};
-ghost use Rattle.std.specs.Vec.{vec_capacity};
+ghost use Rattle.std.specs.Prelude.{◌≡◌, ◌<◌, ◌≤◌, ◌/◌, ℕ, List, [], All, length, IfOk, OnOk, IsTrue};
 ghost use Rattle.object_heap.specs.HeapImage.{heap_words, word_at, leads_to, refers_to};
-ghost use Rattle.object_heap.specs.Bits.{has};
-ghost use Rattle.heap_marking.specs.Marking.{IsGrown, IsMarking, IsWellFormed, AreReached, AreReachedWell, AreStacked, unmarked, waiting_addresses};
+ghost use Rattle.heap_marking.specs.Marking.{AreFetched, AreReached, AreReachedWell, AreStacked, GoesOn, Grows, HasRoom, IsBatchFollowed, IsBatchTaken, IsFinished, IsReadyBatch, IsUnderway, IsWellFormed, Notes, leads_any, waiting_addresses};
 
 mod boxes;
 mod finish;
@@ -104,8 +101,7 @@ fn mark_in_rounds<T: Threads + Sync>(
     crowd: &Crowd<'_, T>,
 ) -> Result<Marking, AllocError>
     requires some { 0 < heap_words heap.now }
-    ensures words { IfOk result (λ marking. marking.words ≡ heap_words heap.now) }
-    ensures marking { IfOk result (λ marking. IsMarking heap.now roots.now marking.bits marking.stack.items marking.well_formed) }
+    ensures { IfOk result (IsUnderway heap.now roots.now) }
 {
     let mut rounds = Rounds::new(alloc, heap, part_log(heap.len()), roots)?;
     rounds.run(alloc, heap, crowd)?;
@@ -115,12 +111,8 @@ fn mark_in_rounds<T: Threads + Sync>(
 impl Marking {
     /// Marks what is still to be marked, in one thread.
     fn finish(self, alloc: Global, heap: &Heap<'_>) -> Result<Marked, AllocError>
-        requires words { self.words ≡ heap_words heap.now }
-        requires marking { (roots : List ℕ) × IsMarking heap.now roots self.bits self.stack.items self.well_formed }
-        ensures reached { (roots : List ℕ) → IsMarking heap.now roots self.bits self.stack.items self.well_formed
-            → IfOk result (λ marked. AreReached heap.now roots marked.bits) }
-        ensures well_formed { (roots : List ℕ) → IsMarking heap.now roots self.bits self.stack.items self.well_formed
-            → IfOk result (λ marked. IsTrue marked.well_formed → AreReachedWell heap.now roots) }
+        requires { (roots : List ℕ) × IsUnderway heap.now roots self }
+        ensures { (roots : List ℕ) → IsUnderway heap.now roots self → IfOk result (IsFinished heap.now roots) }
     {
         reachable_is_the_least_closed();
         let mut marking = self;
@@ -134,13 +126,9 @@ impl Marking {
 
     /// Follows the objects on the stack until it is empty.
     fn follow_all(&mut self, heap: &Heap<'_>, batch: &mut Vec<Waiting>) -> Result<(), AllocError>
-        requires words { self.old.words ≡ heap_words heap.now }
-        requires marking { (roots : List ℕ) × IsMarking heap.now roots self.old.bits self.old.stack.items self.old.well_formed }
-        requires batch { batch.old.items ≡ [] }
-        requires batch_room { 64 ≤ vec_capacity batch.old }
-        ensures { OnOk result ((roots : List ℕ)
-            → IsMarking heap.now roots self.old.bits self.old.stack.items self.old.well_formed
-            → IsMarking heap.now roots self.new.bits [] self.new.well_formed) }
+        requires marking { (roots : List ℕ) × IsUnderway heap.now roots self.old }
+        requires batch { IsReadyBatch batch.old }
+        ensures { OnOk result (GoesOn heap.now self.old self.old.stack.items self.new []) }
     {
         while !self.stack.is_empty() {
             self.take_batch(heap, batch);
@@ -152,13 +140,9 @@ impl Marking {
     /// Visits the targets of these references (the roots, or some references of an object), and notes whether one leads
     /// out of the heap.
     fn visit_all(&mut self, references: &[u64]) -> Result<(), AllocError>
-        requires few { self.old.words ≤ 68719476736 }
-        requires bits { self.old.words / 64 < length self.old.bits }
-        ensures grown { OnOk result (IsGrown self.old.words (λ b. list_any (λ w. leads_to w b) references.now)
-            self.old.bits self.new.bits self.old.stack.items self.new.stack.items) }
-        ensures well_formed { OnOk result (IsTrue self.new.well_formed
-            → IsTrue self.old.well_formed × All (λ w. w ≤ self.old.words) references.now) }
-        ensures words { OnOk result (self.new.words ≡ self.old.words) }
+        requires { HasRoom self.old }
+        ensures growth { OnOk result (Grows (leads_any references.now) self.old self.new) }
+        ensures well_formed { OnOk result (Notes self.old.well_formed self.new.well_formed (All (λ w. w ≤ self.old.words) references.now)) }
     {
         let mut inside = true;
         for reference in references {
@@ -173,17 +157,8 @@ impl Marking {
     fn take_batch(&mut self, heap: &Heap<'_>, batch: &mut Vec<Waiting>)
         requires words { self.old.words ≡ heap_words heap.now }
         requires inside { AreStacked self.old.words self.old.bits self.old.stack.items }
-        requires empty { batch.old.items ≡ [] }
-        requires room { 64 ≤ vec_capacity batch.old }
-        ensures marking { (roots : List ℕ) → let image = heap.now in
-            IsMarking image roots self.old.bits self.old.stack.items self.old.well_formed
-            → IsMarking image roots self.new.bits (self.new.stack.items ++ waiting_addresses batch.new.items) self.new.well_formed }
-        ensures fetched { All (λ w. w.header ≡ word_at heap.now w.address) batch.new.items }
-        ensures total { length self.new.stack.items + length batch.new.items ≡ length self.old.stack.items }
-        ensures some { 0 < length self.old.stack.items → 0 < length batch.new.items }
-        ensures bits { self.new.bits ≡ self.old.bits }
-        ensures words { self.new.words ≡ self.old.words }
-        ensures batch_capacity { vec_capacity batch.new ≡ vec_capacity batch.old }
+        requires batch { IsReadyBatch batch.old }
+        ensures { IsBatchTaken heap.now self.old self.new batch.old batch.new }
     {
         while batch.len() < BATCH {
             let Some(address) = self.stack.pop() else {
@@ -199,15 +174,8 @@ impl Marking {
         requires words { self.old.words ≡ heap_words heap.now }
         requires bits { self.old.words / 64 < length self.old.bits }
         requires inside { All (λ a. a < self.old.words) (waiting_addresses batch.old.items) }
-        requires fetched { All (λ w. w.header ≡ word_at heap.now w.address) batch.old.items }
-        ensures marking { OnOk result ((roots : List ℕ) → let image = heap.now in
-            IsMarking image roots self.old.bits (self.old.stack.items ++ waiting_addresses batch.old.items) self.old.well_formed
-            → IsMarking image roots self.new.bits self.new.stack.items self.new.well_formed) }
-        ensures total { OnOk result (length self.new.stack.items + unmarked self.new.words self.new.bits
-            ≡ length self.old.stack.items + unmarked self.old.words self.old.bits) }
-        ensures empty { OnOk result (batch.new.items ≡ []) }
-        ensures words { OnOk result (self.new.words ≡ self.old.words) }
-        ensures batch_capacity { OnOk result (vec_capacity batch.new ≡ vec_capacity batch.old) }
+        requires fetched { AreFetched heap.now batch.old.items }
+        ensures { OnOk result (IsBatchFollowed heap.now self.old self.new batch.old batch.new) }
     {
         reachable_is_the_least_closed();
         while let Some(object) = batch.pop() {
@@ -223,11 +191,8 @@ impl Marking {
         requires inside { object.address < self.old.words }
         requires header { object.header ≡ word_at heap.now object.address }
         requires bits { self.old.words / 64 < length self.old.bits }
-        ensures grown { OnOk result (IsGrown self.old.words (refers_to heap.now object.address)
-            self.old.bits self.new.bits self.old.stack.items self.new.stack.items) }
-        ensures well_formed { OnOk result (IsTrue self.new.well_formed
-            → IsTrue self.old.well_formed × IsWellFormed heap.now object.address) }
-        ensures words { OnOk result (self.new.words ≡ self.old.words) }
+        ensures growth { OnOk result (Grows (refers_to heap.now object.address) self.old self.new) }
+        ensures well_formed { OnOk result (Notes self.old.well_formed self.new.well_formed (IsWellFormed heap.now object.address)) }
     {
         if is_unsound(object.header, object.address, heap.len()) {
             self.well_formed = false;
@@ -246,12 +211,9 @@ impl Marking {
     /// Marks the target of a reference and pushes it on the stack, unless it is marked already or outside the heap.
     #[inline]
     fn visit(&mut self, reference: u64) -> Result<(), AllocError>
-        requires few { self.old.words ≤ 68719476736 }
-        requires bits { self.old.words / 64 < length self.old.bits }
-        ensures grown { OnOk result (IsGrown self.old.words (leads_to reference)
-            self.old.bits self.new.bits self.old.stack.items self.new.stack.items) }
+        requires { HasRoom self.old }
+        ensures growth { OnOk result (Grows (leads_to reference) self.old self.new) }
         ensures well_formed { OnOk result (self.new.well_formed ≡ self.old.well_formed) }
-        ensures words { OnOk result (self.new.words ≡ self.old.words) }
     {
         if reference == 0 || reference > self.words {
             return Ok(());

@@ -4,11 +4,11 @@
 //! the live addresses. If the objects are known to be well-formed,
 //! only their headers are read. The result only says whether all objects are sound: `check` finds the first fault.
 //! No object waits for another one, so that the processor reads some headers and references ahead by itself.
-ghost use Rattle.std.specs.Prelude.{◌≡◌, ◌<◌, ◌≤◌, ◌+◌, ◌*◌, ◌/◌, ◌%◌, ℕ, All, IfSome, IsTrue, OnOk, IfOk, length, [], List, slice_index, slice_index_or};
+ghost use Rattle.std.specs.Prelude.{◌≡◌, ◌<◌, ◌≤◌, ◌+◌, ◌*◌, ◌/◌, ◌%◌, ℕ, All, IfSome, IsTrue, IfOk, length, [], List, slice_index, slice_index_or};
 ghost use Rattle.object_heap.specs.HeapImage.{HasLiveList, heap_words, is_null_or_live, size_at, with_live, word_at};
 ghost use Rattle.object_heap.specs.Bits.{MarkBegins};
 ghost use Rattle.object_heap.specs.Sizes.{AreSizes};
-ghost use Rattle.live_objects.specs.Soundness.{AreNoted, AreBeginsOrWellFormed, IsSoundObject};
+ghost use Rattle.live_objects.specs.Soundness.{AreAllNoted, AreBeginsOrWellFormed, AreKnown, AreNoted, IsSoundObject, LeadToLive, WordsLeadToLive};
 
 use crate::marker::Marker;
 use heap_marking::Crowd;
@@ -59,11 +59,9 @@ pub fn note_all_alone(
     live: &[u64],
     begins: Option<&Bits>,
 ) -> Result<Vec<[u32; PIECE]>, AllocError>
-    requires inside { All (λ a. a < heap_words heap.now) live.now }
-    requires begins { AreBeginsOrWellFormed (with_live heap.now live.now) begins }
+    requires { AreKnown heap.now live.now begins }
     ensures room { IfOk result (λ sizes. length live.now ≤ 64 * length sizes.items) }
-    ensures noted { IfOk result (λ sizes. (p : ℕ) → p < length sizes.items
-        → AreNoted (with_live heap.now live.now) p (slice_index_or sizes.items p [])) }
+    ensures noted { IfOk result (λ sizes. AreAllNoted (with_live heap.now live.now) sizes.items) }
 {
     let mut sizes = vec![in alloc; [0u32; PIECE]; live.len().div_ceil(PIECE)]?;
     note_pieces(heap, live, begins, sizes.as_mut_slice());
@@ -72,12 +70,10 @@ pub fn note_all_alone(
 
 /// Notes the sizes of the sound live objects of all pieces.
 fn note_pieces(heap: &Heap<'_>, live: &[u64], begins: Option<&Bits>, sizes: &mut [[u32; PIECE]])
-    requires inside { All (λ a. a < heap_words heap.now) live.now }
-    requires begins { AreBeginsOrWellFormed (with_live heap.now live.now) begins }
+    requires known { AreKnown heap.now live.now begins }
     requires pieces { (p : ℕ) → p < length sizes.old → 64 * p < length live.now }
     ensures count { length sizes.new ≡ length sizes.old }
-    ensures noted { (p : ℕ) → p < length sizes.new
-        → AreNoted (with_live heap.now live.now) p (slice_index_or sizes.new p []) }
+    ensures noted { AreAllNoted (with_live heap.now live.now) sizes.new }
 {
     for piece in 0..sizes.len() {
         note_sizes(heap, live, begins, piece, &mut sizes[piece]);
@@ -92,17 +88,14 @@ pub fn note_all_by_crowd<T: Threads + Sync>(
     begins: Option<&Bits>,
     crowd: &Crowd<'_, T>,
 ) -> Result<Vec<[u32; PIECE]>, AllocError>
-    requires inside { All (λ a. a < heap_words heap.now) live.now }
-    requires begins { AreBeginsOrWellFormed (with_live heap.now live.now) begins }
+    requires { AreKnown heap.now live.now begins }
     ensures room { IfOk result (λ sizes. length live.now ≤ 64 * length sizes.items) }
-    ensures noted { IfOk result (λ sizes. (p : ℕ) → p < length sizes.items
-        → AreNoted (with_live heap.now live.now) p (slice_index_or sizes.items p [])) }
+    ensures noted { IfOk result (λ sizes. AreAllNoted (with_live heap.now live.now) sizes.items) }
 {
     let mut sizes = vec![in alloc; [0u32; PIECE]; live.len().div_ceil(PIECE)]?;
     let count = crowd.most.min(sizes.len() / LEAST_PIECES).max(1);
     let note = |piece: usize, sizes: &mut [u32; PIECE]|
-        requires { All (λ a. a < heap_words heap.now) live.now
-            × AreBeginsOrWellFormed (with_live heap.now live.now) begins × (64 * piece < length live.now) }
+        requires { AreKnown heap.now live.now begins × (64 * piece < length live.now) }
         ensures { AreNoted (with_live heap.entry.now live.entry.now) piece sizes.new }
     { note_sizes(heap, live, begins, piece, sizes) };
     for_each_mut(crowd.threads, sizes.as_mut_slice(), count, &note);
@@ -117,8 +110,7 @@ fn note_sizes(
     piece: usize,
     sizes: &mut [u32; PIECE],
 )
-    requires inside { All (λ a. a < heap_words heap.now) live.now }
-    requires begins { AreBeginsOrWellFormed (with_live heap.now live.now) begins }
+    requires known { AreKnown heap.now live.now begins }
     requires piece { 64 * piece < length live.now }
     ensures { AreNoted (with_live heap.now live.now) piece sizes.new }
 {
@@ -132,8 +124,7 @@ fn note_sizes(
 /// Whether the sizes of all objects are noted.
 fn are_all_noted(sizes: &[[u32; PIECE]], objects: usize) -> bool
     requires { objects ≤ 64 * length sizes.now }
-    ensures { IsTrue result → (i : ℕ) → i < objects
-        → 0 < slice_index (slice_index_or sizes.now (i / 64) []) (i % 64) }
+    ensures { IsTrue result → (i : ℕ) → i < objects → 0 < slice_index (slice_index_or sizes.now (i / 64) []) (i % 64) }
 {
     let whole = objects / PIECE;
     let mut all = true;
@@ -158,8 +149,7 @@ fn are_noted(sizes: &[u32]) -> bool
 /// The size of the live object with this index, or 0 if it isn't sound.
 #[inline]
 fn size_if_sound(heap: &Heap<'_>, live: &[u64], begins: Option<&Bits>, i: usize) -> u32
-    requires inside { All (λ a. a < heap_words heap.now) live.now }
-    requires begins { AreBeginsOrWellFormed (with_live heap.now live.now) begins }
+    requires known { AreKnown heap.now live.now begins }
     requires index { i < length live.now }
     ensures sound { 0 < result → IsSoundObject (with_live heap.now live.now) i }
     ensures size { 0 < result → result ≡ size_at (with_live heap.now live.now) (slice_index live.now i) }
@@ -176,8 +166,7 @@ fn size_if_sound(heap: &Heap<'_>, live: &[u64], begins: Option<&Bits>, i: usize)
 /// only references that are null or lead to live objects.
 #[inline]
 fn is_sound(heap: &Heap<'_>, live: &[u64], begins: Option<&Bits>, i: usize, header: u64) -> bool
-    requires inside { All (λ a. a < heap_words heap.now) live.now }
-    requires begins { AreBeginsOrWellFormed (with_live heap.now live.now) begins }
+    requires known { AreKnown heap.now live.now begins }
     requires index { i < length live.now }
     requires header { header ≡ word_at heap.now (slice_index live.now i) }
     ensures { IsTrue result → IsSoundObject (with_live heap.now live.now) i }
@@ -204,9 +193,7 @@ fn is_sound(heap: &Heap<'_>, live: &[u64], begins: Option<&Bits>, i: usize, head
 fn are_sound_references(heap: &Heap<'_>, begins: Option<&Bits>, from: u64, to: u64) -> bool
     requires inside { to ≤ heap_words heap.now }
     requires room { IfSome begins (λ bits. heap_words heap.now / 64 < length bits.now) }
-    ensures { IsTrue result → IfSome begins.entry (λ bits. (live : List ℕ) → All (λ a. a < heap_words heap.now) live
-        → MarkBegins live (heap_words heap.now) bits.now → (p : ℕ) → from ≤ p → p < to
-        → IsTrue (is_null_or_live (with_live heap.now live) (word_at heap.now p))) }
+    ensures { IsTrue result → IfSome begins.entry (λ bits. WordsLeadToLive heap.now bits.now from to) }
 {
     match begins {
         Some(begins) => lead_to_live(heap, begins, from, to),
@@ -219,9 +206,7 @@ fn are_sound_references(heap: &Heap<'_>, begins: Option<&Bits>, from: u64, to: u
 fn lead_to_live(heap: &Heap<'_>, begins: &Bits, from: u64, to: u64) -> bool
     requires inside { to ≤ heap_words heap.now }
     requires room { heap_words heap.now / 64 < length begins.now }
-    ensures { IsTrue result → (live : List ℕ) → All (λ a. a < heap_words heap.now) live
-        → MarkBegins live (heap_words heap.now) begins.now → (p : ℕ) → from ≤ p → p < to
-        → IsTrue (is_null_or_live (with_live heap.now live) (word_at heap.now p)) }
+    ensures { IsTrue result → WordsLeadToLive heap.now begins.now from to }
 {
     let mut next = from;
     while next < to {
@@ -240,9 +225,7 @@ fn lead_to_live(heap: &Heap<'_>, begins: &Bits, from: u64, to: u64) -> bool
 #[inline]
 fn all_lead_to_live(heap: &Heap<'_>, begins: &Bits, references: &[u64]) -> bool
     requires { heap_words heap.now / 64 < length begins.now }
-    ensures { IsTrue result → (live : List ℕ) → All (λ a. a < heap_words heap.now) live
-        → MarkBegins live (heap_words heap.now) begins.now → (k : ℕ) → k < length references.now
-        → IsTrue (is_null_or_live (with_live heap.now live) (slice_index references.now k)) }
+    ensures { IsTrue result → LeadToLive heap.now begins.now references.now }
 {
     for reference in references {
         if !is_null_or_live(heap, *reference, begins) {

@@ -184,6 +184,7 @@ module _ (log words : ℕ) where
   -- the part has the same room as before
   pub part_kept : (targets : ℕ → Bool) (p p' : Part) → IsSpread log words targets p p' → IsPart log words p → IsPart log words p'
   part_kept targets p p' spread part = record {
+    small = part.small;
     inside = let same = spread.first in let inside = part.inside in omega (arith, same, inside);
     bits = let room = spread.room in let bits = part.bits in omega (arith, room, bits);
     boxes = λ b l. let same = spread.boxes in let boxes = part.boxes b l in omega (arith, same, boxes);

@@ -1,5 +1,5 @@
 -- The state before the first round.
-use Rattle.std.proofs.Common.{◌≡◌, ◌⊎◌, ℕ, ◌+◌, ◌-◌, ◌*◌, ◌/◌, ◌^◌, ◌<◌, inl, inr, Bool, true, false, ◌||◌, List, [], ◌∷◌, ◌++◌, length, get_or, refl, sym, ◌∙◌, ap, subst, arith}
+use Rattle.std.proofs.Common.{◌≡◌, ◌⊎◌, ℕ, ◌+◌, ◌-◌, ◌*◌, ◌/◌, ◌^◌, ◌≤◌, ◌<◌, inl, inr, Bool, true, false, ◌||◌, List, [], ◌∷◌, ◌++◌, length, get_or, refl, sym, ◌∙◌, ap, subst, arith}
 use Rattle.std.proofs.lemmas.Bool.{false≢true, cases_eq, or_cases, or_left, or_right, eq-eqb, eqb-true}
 use Rattle.std.proofs.lemmas.List.{length_push, get_or_append_left}
 use Rattle.std.proofs.lemmas.List.Folds.{list_any-append}
@@ -82,11 +82,11 @@ module _ (log words : ℕ) where
   }
 
 -- a part without marks
-pub part_begins : (log : ℕ) (image : HeapImage) (k : ℕ) (p : Part) → p.first ≡ k * 2 ^ log → k * 2 ^ log < heap_words image → 2 ^ log < 64 * length p.bits
+pub part_begins : (log : ℕ) (image : HeapImage) (k : ℕ) (p : Part) → log ≤ 30 → p.first ≡ k * 2 ^ log → k * 2 ^ log < heap_words image → 2 ^ log < 64 * length p.bits
     → ((b : ℕ) → b < heap_words image → b / 2 ^ log < length p.out) → IsUnmarked p → IsPartAt log image k p
-part_begins log image k p first inside bits boxes unmarked = record {
+part_begins log image k p small first inside bits boxes unmarked = record {
   first = first;
-  part = record { inside = omega (arith, first, inside); bits = bits; boxes = boxes };
+  part = record { small = small; inside = omega (arith, first, inside); bits = bits; boxes = boxes };
   waiting = λ a c. absurd (nothing a (subst (λ xs. Contains xs a) unmarked.empty c));
 }
   where
@@ -98,9 +98,10 @@ module _ (log : ℕ) (image : HeapImage) (roots : List ℕ) where
   words_of = heap_words image
 
   pub layout_begins : (parts : List Part) (rows : List (List (List ℕ))) (count : ℕ)
-      → ((b : ℕ) → b < words_of → b / 2 ^ log < count) → length parts ≡ count → AreParts log image parts
+      → log ≤ 30 → ((b : ℕ) → b < words_of → b / 2 ^ log < count) → length parts ≡ count → AreParts log image parts
       → length rows ≡ count → ((j : ℕ) (d : List (List ℕ)) → j < length rows → length (get_or rows j d) ≡ count) → IsLayout log image parts rows
-  layout_begins parts rows count inside parts_count parts_are rows_count rows_are = record {
+  layout_begins parts rows count small inside parts_count parts_are rows_count rows_are = record {
+    small = small;
     count = λ b l. let i = inside b l in omega (arith, i, parts_count);
     rows = rows_count ∙ sym parts_count;
     boxes = λ j d l b m. let i = inside b m in let r = rows_are j d l in omega (arith, i, r);

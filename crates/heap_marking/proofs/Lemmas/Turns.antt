@@ -70,6 +70,7 @@ module _ (log : ℕ) where
 
     pub turned_layout : IsLayout log image parts' sent'
     turned_layout = record {
+      small = layout.small;
       count = λ b l. let same = long in let was = layout.count b l in omega (arith, same, was);
       rows = exchanged.sent_count ∙ layout.rows ∙ sym long;
       boxes = λ j e l b m.
@@ -87,6 +88,7 @@ module _ (log : ℕ) where
           record {
             first = s.first ∙ r.first ∙ was.first;
             part = record {
+              small = was.part.small;
               inside = let e = s.first ∙ r.first in let inside = was.part.inside in omega (arith, e, inside);
               bits = let e = ap length s.bits ∙ r.room in let bits = was.part.bits in omega (arith, e, bits);
               boxes = λ b m. let is = ap length s.lies in let rows = layout.rows in let row = layout.boxes k [] (omega (arith, low, rows)) b m in omega (arith, is, row);

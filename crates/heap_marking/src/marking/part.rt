@@ -1,14 +1,11 @@
 //! The marks of one part of a heap.
-ghost use Rattle.std.specs.Prelude.{◌≡◌, ℕ, ◌+◌, ◌-◌, ◌*◌, ◌/◌, ◌^◌, ◌<◌, ◌≤◌, ◌⊎◌, ◌&&◌, List, [], All, ◌++◌, take, Contains, false, IfOk, OnOk, IsTrue, length};
-ghost use Rattle.std.specs.List.{list_any};
+ghost use Rattle.std.specs.Prelude.{◌≡◌, ℕ, ◌+◌, ◌*◌, ◌/◌, ◌^◌, ◌<◌, ◌≤◌, ◌⊎◌, ◌&&◌, [], All, ◌++◌, take, Contains, IfOk, OnOk, IsTrue, length};
 ghost use Rattle.std.specs.Vec.{vec_capacity};
 ghost use Rattle.object_heap.specs.HeapImage.{heap_words, word_at, leads_to, refers_to};
-ghost use Rattle.object_heap.specs.Bits.{has};
 ghost use Rattle.heap_marking.specs.Boxes.{arrives};
-ghost use Rattle.heap_marking.specs.Marking.{IsWellFormed, waiting_addresses};
-ghost use Rattle.heap_marking.specs.declared.marking.part.Part.{Part};
-ghost use Rattle.heap_marking.specs.Rounds.{IsUnmarked};
-ghost use Rattle.heap_marking.specs.Spread.{IsIn, is_in, IsPart, IsSpread, AreWaiting, AreWaitingIn, open_in, AreRows, IsRunning, IsRoundOf};
+ghost use Rattle.heap_marking.specs.Marking.{AreFetched, IsReadyBatch, IsWellFormed, Notes, leads_any, waiting_addresses};
+ghost use Rattle.heap_marking.specs.Rounds.{IsNew};
+ghost use Rattle.heap_marking.specs.Spread.{IsIn, is_in, IsPart, IsReady, IsSpread, IsTaken, AreWaiting, AreWaitingIn, AreRows, IsBatchTaken, IsBatchFollowed, IsRoundOf, RunsOn};
 
 use super::boxes::Boxes;
 use super::{BATCH, Waiting};
@@ -44,10 +41,7 @@ impl Part {
     /// The part that begins at this address, with nothing marked, beside this number of parts in all.
     pub(crate) fn new(alloc: Global, log: u32, first: u64, parts: usize) -> Result<Part, AllocError>
         requires { log ≤ 30 }
-        ensures first { IfOk result (λ part. part.first ≡ first) }
-        ensures bits { IfOk result (λ part. 2 ^ log < 64 * length part.bits) }
-        ensures out { IfOk result (λ part. length part.out ≡ parts) }
-        ensures unmarked { IfOk result IsUnmarked }
+        ensures { IfOk result (IsNew log first parts) }
     {
         Ok(Part {
             first,
@@ -73,9 +67,7 @@ impl Part {
     fn mark(&mut self, log: u32, a: u64) -> Result<(), AllocError>
         requires inside { IsIn log self.old a }
         requires bits { 2 ^ log < 64 * length self.old.bits }
-        ensures spread { OnOk result ((words : ℕ) → a < words → IsSpread log words (leads_to (a + 1)) self.old self.new) }
-        ensures out { OnOk result (self.new.out ≡ self.old.out) }
-        ensures well_formed { OnOk result (self.new.well_formed ≡ self.old.well_formed) }
+        ensures { OnOk result ((words : ℕ) → a < words → IsTaken log words (leads_to (a + 1)) self.old self.new) }
     {
         let i = a - self.first;
         if self.bits.has(i) {
@@ -89,8 +81,7 @@ impl Part {
     /// Marks the target of a reference, or sends the reference to the part of its target.
     #[inline]
     fn visit(&mut self, words: u64, log: u32, reference: u64) -> Result<(), AllocError>
-        requires log { log ≤ 30 }
-        requires part { IsPart log words self.old }
+        requires { IsPart log words self.old }
         ensures spread { OnOk result (IsSpread log words (leads_to reference) self.old self.new) }
         ensures well_formed { OnOk result (self.new.well_formed ≡ self.old.well_formed) }
     {
@@ -106,11 +97,9 @@ impl Part {
 
     /// Visits the targets of some references of an object, and notes whether one leads out of the heap.
     fn visit_all(&mut self, words: u64, log: u32, references: &[u64]) -> Result<(), AllocError>
-        requires log { log ≤ 30 }
-        requires part { IsPart log words self.old }
-        ensures spread { OnOk result (IsSpread log words (λ b. list_any (λ w. leads_to w b) references.now) self.old self.new) }
-        ensures well_formed { OnOk result (IsTrue self.new.well_formed
-            → IsTrue self.old.well_formed × All (λ w. w ≤ words) references.now) }
+        requires { IsPart log words self.old }
+        ensures spread { OnOk result (IsSpread log words (leads_any references.now) self.old self.new) }
+        ensures well_formed { OnOk result (Notes self.old.well_formed self.new.well_formed (All (λ w. w ≤ words) references.now)) }
     {
         let mut inside = true;
         for reference in references {
@@ -124,13 +113,11 @@ impl Part {
     /// Visits the targets of an object's references, if its header is sound, and notes whether the object is
     /// well-formed.
     fn follow(&mut self, heap: &Heap<'_>, log: u32, object: Waiting) -> Result<(), AllocError>
-        requires log { log ≤ 30 }
         requires part { IsPart log (heap_words heap.now) self.old }
         requires inside { object.address < heap_words heap.now }
         requires header { object.header ≡ word_at heap.now object.address }
         ensures spread { OnOk result (IsSpread log (heap_words heap.now) (refers_to heap.now object.address) self.old self.new) }
-        ensures well_formed { OnOk result (IsTrue self.new.well_formed
-            → IsTrue self.old.well_formed × IsWellFormed heap.now object.address) }
+        ensures well_formed { OnOk result (Notes self.old.well_formed self.new.well_formed (IsWellFormed heap.now object.address)) }
     {
         let words = heap.len();
         if is_unsound(object.header, object.address, words) {
@@ -150,12 +137,8 @@ impl Part {
     /// Marks the target of a reference, if it is one of the part's.
     #[inline]
     fn take(&mut self, words: u64, log: u32, reference: u64) -> Result<(), AllocError>
-        requires log { log ≤ 30 }
-        requires part { IsPart log words self.old }
-        ensures spread { OnOk result
-            (IsSpread log words (λ b. leads_to reference b && is_in log self.old b) self.old self.new) }
-        ensures out { OnOk result (self.new.out ≡ self.old.out) }
-        ensures well_formed { OnOk result (self.new.well_formed ≡ self.old.well_formed) }
+        requires { IsPart log words self.old }
+        ensures { OnOk result (IsTaken log words (λ b. leads_to reference b && is_in log self.old b) self.old self.new) }
     {
         if reference == 0 || reference > words {
             return Ok(());
@@ -169,12 +152,8 @@ impl Part {
 
     /// Marks the targets of these references, as far as they are the part's.
     fn take_box(&mut self, words: u64, log: u32, references: &[u64]) -> Result<(), AllocError>
-        requires log { log ≤ 30 }
-        requires part { IsPart log words self.old }
-        ensures spread { OnOk result
-            (IsSpread log words (λ b. list_any (λ w. leads_to w b) references.now && is_in log self.old b) self.old self.new) }
-        ensures out { OnOk result (self.new.out ≡ self.old.out) }
-        ensures well_formed { OnOk result (self.new.well_formed ≡ self.old.well_formed) }
+        requires { IsPart log words self.old }
+        ensures { OnOk result (IsTaken log words (λ b. leads_any references.now b && is_in log self.old b) self.old self.new) }
     {
         for reference in references {
             self.take(words, log, *reference)?;
@@ -184,13 +163,10 @@ impl Part {
 
     /// Marks the targets of what these rows of boxes have for the part.
     fn take_all(&mut self, words: u64, log: u32, sent: &[Boxes]) -> Result<(), AllocError>
-        requires log { log ≤ 30 }
         requires part { IsPart log words self.old }
         requires sent { AreRows log words sent.now }
-        ensures spread { OnOk result (IsSpread log words
+        ensures { OnOk result (IsTaken log words
             (λ b. arrives sent.now (self.old.first / 2 ^ log) b && is_in log self.old b) self.old self.new) }
-        ensures out { OnOk result (self.new.out ≡ self.old.out) }
-        ensures well_formed { OnOk result (self.new.well_formed ≡ self.old.well_formed) }
     {
         let number = self.number(log);
         for boxes in sent {
@@ -202,16 +178,8 @@ impl Part {
     /// Pops up to 64 addresses from the stack and fetches their headers.
     fn take_batch(&mut self, heap: &Heap<'_>, batch: &mut Vec<Waiting>)
         requires inside { (a : ℕ) → Contains self.old.stack.items a → a < heap_words heap.now }
-        requires empty { batch.old.items ≡ [] }
-        requires room { 64 ≤ vec_capacity batch.old }
-        ensures first { self.new.first ≡ self.old.first }
-        ensures bits { self.new.bits ≡ self.old.bits }
-        ensures out { self.new.out ≡ self.old.out }
-        ensures well_formed { self.new.well_formed ≡ self.old.well_formed }
-        ensures cut { self.old.stack.items ≡ self.new.stack.items ++ waiting_addresses batch.new.items }
-        ensures fetched { All (λ w. w.header ≡ word_at heap.now w.address) batch.new.items }
-        ensures some { 0 < length self.old.stack.items → 0 < length batch.new.items }
-        ensures batch_capacity { vec_capacity batch.new ≡ vec_capacity batch.old }
+        requires batch { IsReadyBatch batch.old }
+        ensures { IsBatchTaken heap.now self.old self.new batch.old batch.new }
     {
         let from = self.stack.len() - self.stack.len().min(BATCH);
         fetch(heap, &self.stack[from..], batch);
@@ -225,19 +193,10 @@ impl Part {
         log: u32,
         batch: &mut Vec<Waiting>,
     ) -> Result<(), AllocError>
-        requires log { log ≤ 30 }
         requires part { IsPart log (heap_words heap.now) self.old }
         requires inside { AreWaitingIn log (heap_words heap.now) self.old (self.old.stack.items ++ waiting_addresses batch.old.items) }
-        requires fetched { All (λ w. w.header ≡ word_at heap.now w.address) batch.old.items }
-        ensures running { OnOk result ((sent : List (List (List ℕ))) → (p : Part)
-            → IsRunning log heap.now sent p self.old (self.old.stack.items ++ waiting_addresses batch.old.items)
-            → IsRunning log heap.now sent p self.new self.new.stack.items) }
-        ensures part { OnOk result (IsPart log (heap_words heap.now) self.new) }
-        ensures inside { OnOk result (AreWaiting log (heap_words heap.now) self.new) }
-        ensures total { OnOk result (length self.new.stack.items + open_in log self.new
-            ≡ length self.old.stack.items + open_in log self.old) }
-        ensures empty { OnOk result (batch.new.items ≡ []) }
-        ensures batch_capacity { OnOk result (vec_capacity batch.new ≡ vec_capacity batch.old) }
+        requires fetched { AreFetched heap.now batch.old.items }
+        ensures { OnOk result (IsBatchFollowed log heap.now self.old self.new batch.old batch.new) }
     {
         while let Some(object) = batch.pop() {
             self.follow(heap, log, object)?;
@@ -253,14 +212,10 @@ impl Part {
         log: u32,
         batch: &mut Vec<Waiting>,
     ) -> Result<u64, AllocError>
-        requires log { log ≤ 30 }
         requires part { IsPart log (heap_words heap.now) self.old }
         requires inside { AreWaiting log (heap_words heap.now) self.old }
-        requires batch { batch.old.items ≡ [] }
-        requires room { 64 ≤ vec_capacity batch.old }
-        ensures { OnOk result ((sent : List (List (List ℕ))) → (p : Part)
-            → IsRunning log heap.now sent p self.old self.old.stack.items
-            → IsRunning log heap.now sent p self.new self.new.stack.items) }
+        requires batch { IsReadyBatch batch.old }
+        ensures { OnOk result (RunsOn log heap.now self.old self.old.stack.items self.new) }
     {
         let mut work: u64 = 0;
         while !self.stack.is_empty() {
@@ -290,10 +245,7 @@ impl Part {
         log: u32,
         sent: &[Boxes],
     ) -> Result<u64, AllocError>
-        requires log { log ≤ 30 }
-        requires part { IsPart log (heap_words heap.now) self.old }
-        requires waiting { AreWaiting log (heap_words heap.now) self.old }
-        requires sent { AreRows log (heap_words heap.now) sent.now }
+        requires { IsReady log (heap_words heap.now) sent.now self.old }
         ensures { OnOk result (IsRoundOf log heap.now sent.now self.old self.new) }
     {
         let mut batch = Vec::with_capacity(alloc, BATCH)?;
@@ -304,10 +256,7 @@ impl Part {
 
     /// Does the work of the part in a round, or notes that memory ran out.
     pub(crate) fn round(&mut self, alloc: Global, heap: &Heap<'_>, log: u32, sent: &[Boxes])
-        requires log { log ≤ 30 }
-        requires part { IsPart log (heap_words heap.now) self.old }
-        requires waiting { AreWaiting log (heap_words heap.now) self.old }
-        requires sent { AreRows log (heap_words heap.now) sent.now }
+        requires { IsReady log (heap_words heap.now) sent.now self.old }
         ensures { IsTrue self.new.failed ⊎ IsRoundOf log heap.now sent.now self.old self.new }
     {
         match self.try_round(alloc, heap, log, sent) {
@@ -331,7 +280,7 @@ fn fetch(heap: &Heap<'_>, addresses: &[u64], batch: &mut Vec<Waiting>)
     requires empty { batch.old.items ≡ [] }
     requires room { length addresses.now ≤ vec_capacity batch.old }
     ensures addresses { waiting_addresses batch.new.items ≡ addresses.now }
-    ensures fetched { All (λ w. w.header ≡ word_at heap.now w.address) batch.new.items }
+    ensures fetched { AreFetched heap.now batch.new.items }
     ensures batch_capacity { vec_capacity batch.new ≡ vec_capacity batch.old }
 {
     for &address in addresses {

@@ -1,8 +1,8 @@
 //! Rounds of threads, each of which marks in parts of its own.
-ghost use Rattle.std.specs.Prelude.{◌≡◌, ◌<◌, ◌≤◌, ◌⊎◌, All, List, ℕ, false, IfOk, OnOk, IsTrue, length};
+ghost use Rattle.std.specs.Prelude.{◌≡◌, ◌<◌, ◌≤◌, ◌⊎◌, All, false, IfOk, OnOk, IsTrue, length};
 ghost use Rattle.object_heap.specs.HeapImage.{heap_words};
-ghost use Rattle.heap_marking.specs.Spread.{IsPart, AreWaiting, AreRows, IsRoundOf};
-ghost use Rattle.heap_marking.specs.Rounds.{IsLayout, IsState, HaveTurned, IsSwapped, AreExchanged};
+ghost use Rattle.heap_marking.specs.Spread.{IsReady, IsRoundOf};
+ghost use Rattle.heap_marking.specs.Rounds.{Advances, AreExchanged, HasBegun, HasLayout, HaveTurned, IsSwapped};
 
 use super::boxes::Boxes;
 use super::part::Part;
@@ -55,9 +55,7 @@ impl Rounds {
     ) -> Result<Rounds, AllocError>
         requires log { log ≤ 30 }
         requires some { 0 < heap_words heap.now }
-        ensures log { IfOk result (λ rounds. rounds.log ≡ log) }
-        ensures layout { IfOk result (λ rounds. IsLayout rounds.log heap.now rounds.parts.items rounds.sent.items) }
-        ensures state { IfOk result (λ rounds. IsState rounds.log heap.now roots.now rounds.parts.items rounds.sent.items) }
+        ensures { IfOk result (HasBegun heap.now log roots.now) }
     {
         let words = heap.len();
         let count = part_count(words, log);
@@ -75,13 +73,8 @@ impl Rounds {
         heap: &Heap<'_>,
         crowd: &Crowd<'_, T>,
     ) -> Result<(), AllocError>
-        requires log { self.old.log ≤ 30 }
-        requires layout { IsLayout self.old.log heap.now self.old.parts.items self.old.sent.items }
-        ensures log { OnOk result (self.new.log ≡ self.old.log) }
-        ensures layout { OnOk result (IsLayout self.new.log heap.now self.new.parts.items self.new.sent.items) }
-        ensures state { OnOk result ((roots : List ℕ)
-            → IsState self.old.log heap.now roots self.old.parts.items self.old.sent.items
-            → IsState self.new.log heap.now roots self.new.parts.items self.new.sent.items) }
+        requires { HasLayout heap.now self.old }
+        ensures { OnOk result (Advances heap.now self.old self.new) }
     {
         let mut small: usize = 0;
         for _ in 0..MOST_ROUNDS {
@@ -107,14 +100,9 @@ impl Rounds {
         heap: &Heap<'_>,
         crowd: &Crowd<'_, T>,
     ) -> Result<(), AllocError>
-        requires log { self.old.log ≤ 30 }
         requires threads { 0 < crowd.now.most }
-        requires layout { IsLayout self.old.log heap.now self.old.parts.items self.old.sent.items }
-        ensures log { OnOk result (self.new.log ≡ self.old.log) }
-        ensures layout { OnOk result (IsLayout self.new.log heap.now self.new.parts.items self.new.sent.items) }
-        ensures state { OnOk result ((roots : List ℕ)
-            → IsState self.old.log heap.now roots self.old.parts.items self.old.sent.items
-            → IsState self.new.log heap.now roots self.new.parts.items self.new.sent.items) }
+        requires layout { HasLayout heap.now self.old }
+        ensures { OnOk result (Advances heap.now self.old self.new) }
     {
         self.turn_all(alloc, heap, crowd);
         if has_failed(self.parts.as_slice()) {
@@ -126,9 +114,8 @@ impl Rounds {
 
     /// Each part does its work of a round.
     fn turn_all<T: Threads + Sync>(&mut self, alloc: Global, heap: &Heap<'_>, crowd: &Crowd<'_, T>)
-        requires log { self.old.log ≤ 30 }
         requires threads { 0 < crowd.now.most }
-        requires layout { IsLayout self.old.log heap.now self.old.parts.items self.old.sent.items }
+        requires layout { HasLayout heap.now self.old }
         ensures log { self.new.log ≡ self.old.log }
         ensures sent { self.new.sent ≡ self.old.sent }
         ensures turned { HaveTurned self.old.log heap.now self.old.sent.items self.old.parts.items self.new.parts.items }
@@ -136,8 +123,7 @@ impl Rounds {
         let log = self.log;
         let sent = self.sent.as_slice();
         let work = |_: usize, part: &mut Part|
-            requires { (log ≤ 30) × IsPart log (heap_words heap.now) part.old × AreWaiting log (heap_words heap.now) part.old
-                × AreRows log (heap_words heap.now) sent.now }
+            requires { IsReady log (heap_words heap.now) sent.now part.old }
             ensures { IsTrue part.new.failed ⊎ IsRoundOf log heap.entry.now sent.entry.now part.old part.new }
         { part.round(alloc, heap, log, sent) };
         for_each_mut(crowd.threads, self.parts.as_mut_slice(), crowd.most, &work);

@@ -1,11 +1,7 @@
 //! The start of rounds: parts without marks, and the roots on their way.
-ghost use Rattle.std.specs.Prelude.{◌≡◌, ℕ, ◌+◌, ◌*◌, ◌<◌, ◌≤◌, ◌/◌, ◌^◌, List, true, IfOk, OnOk, length, slice_index_or};
-ghost use Rattle.std.specs.List.{list_any};
-ghost use Rattle.object_heap.specs.HeapImage.{heap_words, leads_to};
-ghost use Rattle.heap_marking.specs.Boxes.{arrives, leads};
-ghost use Rattle.heap_marking.specs.Spread.{Sends, AreSent};
-ghost use Rattle.heap_marking.specs.Rounds.{AreParts, IsUnmarked, IsRooted};
-ghost use Rattle.heap_marking.specs.declared.marking.part.Part.{Part};
+ghost use Rattle.std.specs.Prelude.{◌≡◌, ℕ, ◌<◌, ◌≤◌, ◌/◌, ◌^◌, IfOk, OnOk, length};
+ghost use Rattle.object_heap.specs.HeapImage.{heap_words};
+ghost use Rattle.heap_marking.specs.Rounds.{AreRowsOf, AreUnmarked, IsPartCount, IsRooted, IsRootRow};
 
 use super::boxes::Boxes;
 use super::part::Part;
@@ -37,8 +33,7 @@ pub(crate) fn part_count(words: u64, log: u32) -> usize
     requires log { log ≤ 30 }
     requires some { 0 < words }
     requires few { words ≤ 68719476736 }
-    ensures inside { (b : ℕ) → b < words → b / 2 ^ log < result }
-    ensures needed { (k : ℕ) → k < result → k * 2 ^ log < words }
+    ensures { IsPartCount log words result }
 {
     (((words - 1) >> log) + 1) as usize
 }
@@ -51,11 +46,8 @@ pub(crate) fn parts_of(
     count: usize,
 ) -> Result<Vec<Part>, AllocError>
     requires log { log ≤ 30 }
-    requires inside { (b : ℕ) → b < heap_words heap.now → b / 2 ^ log < count }
-    requires needed { (k : ℕ) → k < count → k * 2 ^ log < heap_words heap.now }
-    ensures count { IfOk result (λ parts. length parts.items ≡ count) }
-    ensures parts { IfOk result (λ parts. AreParts log heap.now parts.items) }
-    ensures clear { IfOk result (λ parts. (k : ℕ) → (d : Part) → k < length parts.items → IsUnmarked (slice_index_or parts.items k d)) }
+    requires count { IsPartCount log (heap_words heap.now) count }
+    ensures { IfOk result (λ parts. AreUnmarked log heap.now count parts.items) }
 {
     is_small(heap);
     let mut parts = Vec::with_capacity(alloc, count)?;
@@ -88,9 +80,7 @@ pub(crate) fn root_row(
 ) -> Result<Boxes, AllocError>
     requires log { log ≤ 30 }
     requires inside { (b : ℕ) → b < words → b / 2 ^ log < count }
-    ensures count { IfOk result (λ row. length row ≡ count) }
-    ensures sent { IfOk result (λ row. (b : ℕ) → b < words → list_any (λ w. leads_to w b) roots.now ≡ true → Sends log row b) }
-    ensures sound { IfOk result (λ row. AreSent log words (λ b. list_any (λ w. leads_to w b) roots.now) row) }
+    ensures { IfOk result (IsRootRow log words count roots.now) }
 {
     let mut row = Boxes::new(alloc, count)?;
     for root in roots {
@@ -103,9 +93,7 @@ pub(crate) fn root_row(
 pub(crate) fn rows_of(alloc: Global, row: Boxes, count: usize) -> Result<Vec<Boxes>, AllocError>
     requires some { 0 < count }
     requires row { length row ≡ count }
-    ensures count { IfOk result (λ rows. length rows.items ≡ count) }
-    ensures rows { IfOk result (λ rows. (j : ℕ) → (d : List (List ℕ)) → j < length rows.items → length (slice_index_or rows.items j d) ≡ count) }
-    ensures sent { IfOk result (λ rows. (k : ℕ) → (b : ℕ) → arrives rows.items k b ≡ leads row k b) }
+    ensures { IfOk result (λ rows. AreRowsOf count row rows.items) }
 {
     let mut rows = Vec::with_capacity(alloc, count)?;
     rows.push(row)?;

@@ -30,8 +30,13 @@ ListWriter::write-write_both-requires-clause-high g t c κs within =
     let more = c.if-rest-self.false in
     let split = length-between-append words first middle (length words) (omega arith) (omega arith) in
     let cut = c.split_at_mut-low in
-    behind c.ones_between-count.result (length c.args.list.now) (length (addresses_between words first (length words))) (length (addresses_between words first middle)) (length (addresses_between words middle (length words))) (length cut.result.1.now)
-    c.ones_between-count.ensures c.requires.room split cut.ensures.back_len
+    record {
+      few = c.requires.few;
+      some = c.requires.some;
+      inside = omega arith;
+      room = behind c.ones_between-count.result (length c.args.list.now) (length (addresses_between words first (length words))) (length (addresses_between words first middle)) (length (addresses_between words middle (length words))) (length cut.result.1.now)
+          c.ones_between-count.ensures c.requires.room split cut.ensures.back_len;
+    }
 
 pub ListWriter::write-returns : goal.ListWriter::write-returns
 ListWriter::write-returns g t c =

@@ -6,7 +6,7 @@ use Rattle.live_objects.proofs.soundness.is_sound.Goals as goal
 use Rattle.live_objects.proofs.soundness.is_sound.Goals.{else-i-live-via-then-i-live+else-end-live, else-i-live-via-else-i-live}
 
 pub are_sound_references-requires-clause-room : goal.are_sound_references-requires-clause-room
-are_sound_references-requires-clause-room c = begins_room c.args.heap.now c.args.live.now c.args.begins c.requires.begins
+are_sound_references-requires-clause-room c = begins_room c.args.heap.now c.args.live.now c.args.begins c.requires.known.begins_or
 
 pub returns : goal.returns
 returns c = λ said.
@@ -25,5 +25,5 @@ returns c = λ said.
             omega arith
         | else-i-live-via-else-i-live w ↦ let last = w.if-i-live.false in let no : ⊥ = omega arith in absurd no
       ];
-      references = references_sound c.objects_without_faults.ensures.references heap live c.args.begins i (a + 1 + c.from-2.result) c.requires.index c.requires.inside c.requires.begins (ap (λ n. a + 1 + n) count) (c.are_sound_references.ensures said);
+      references = references_sound c.objects_without_faults.ensures.references heap live c.args.begins i (a + 1 + c.from-2.result) c.requires.index c.requires.known.inside c.requires.known.begins_or (ap (λ n. a + 1 + n) count) (c.are_sound_references.ensures said);
     }

@@ -1,8 +1,12 @@
 use Rattle.heap_marking.proofs.Lemmas.MarkingSteps.{marking_last, marking_last-well}
 use Rattle.heap_marking.proofs.marking.Marking.finish.Goals as goal
 
-pub returns-clause-reached : goal.returns-clause-reached
-returns-clause-reached c = λ roots m. marking_last c.args.heap.now roots (c.reachable_is_the_least_closed.ensures.least c.args.heap.now roots) c.follow_all.new.self.bits c.follow_all.new.self.well_formed (c.in_ok-follow_all.ensures roots m)
-
-pub returns-clause-well_formed : goal.returns-clause-well_formed
-returns-clause-well_formed c = λ roots m. marking_last-well c.args.heap.now roots (c.reachable_is_the_least_closed.ensures.least c.args.heap.now roots) c.follow_all.new.self.bits c.follow_all.new.self.well_formed (c.in_ok-follow_all.ensures roots m)
+pub returns : goal.returns
+returns c = λ roots m.
+    let image = c.args.heap.now in
+    let least = c.reachable_is_the_least_closed.ensures.least image roots in
+    let last = c.in_ok-follow_all.ensures roots m.marking in
+    record {
+      reached = marking_last image roots least c.follow_all.new.self.bits c.follow_all.new.self.well_formed last;
+      well_formed = marking_last-well image roots least c.follow_all.new.self.bits c.follow_all.new.self.well_formed last;
+    }

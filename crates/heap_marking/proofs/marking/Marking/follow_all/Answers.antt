@@ -37,8 +37,10 @@ loop-self-preserved c =
       some = (before.some.0, followed.marking before.some.0 (taken.marking before.some.0 before.some.1));
       marking = λ roots m. followed.marking roots (taken.marking roots (before.marking roots m));
       words = followed.words ∙ taken.words ∙ before.words;
-      batch = followed.empty;
-      batch_room = let one = followed.batch_capacity in let two = taken.batch_capacity in let room = before.batch_room in omega (arith, one, two, room);
+      batch = record {
+        empty = followed.empty;
+        room = let one = followed.batch_capacity in let two = taken.batch_capacity in let room = before.batch.room in omega (arith, one, two, room);
+      };
     }
 
 pub returns : goal.returns

@@ -1,7 +1,6 @@
-use Rattle.std.proofs.Common.{◌≡◌, ◌≤◌, ◌+◌, ℕ, List, [], length}
-use Rattle.std.specs.Vec.{vec_capacity}
+use Rattle.std.proofs.Common.{◌≡◌, ◌+◌, ℕ, List, length}
 use Rattle.object_heap.specs.HeapImage.{heap_words}
-use Rattle.heap_marking.specs.Marking.{IsMarking, unmarked}
+use Rattle.heap_marking.specs.Marking.{IsMarking, IsReadyBatch, unmarked}
 use Rattle.heap_marking.proofs.marking.Marking.follow_all.Given as goal
 
 abbrev pub invariant-loop-self : goal.invariant-loop-self
@@ -10,8 +9,7 @@ invariant-loop-self l = record {
   marking : (roots : List ℕ) → IsMarking l.heap roots l.initial.self.bits l.initial.self.stack.items l.initial.self.well_formed
       → IsMarking l.heap roots l.self.bits l.self.stack.items l.self.well_formed;
   words : l.self.words ≡ heap_words l.heap;
-  batch : l.batch.items ≡ [];
-  batch_room : 64 ≤ vec_capacity l.batch;
+  batch : IsReadyBatch l.batch;
 }
 
 -- a turn takes some addresses from the stack, and each that is put there is marked then

@@ -1,4 +1,4 @@
-use Rattle.std.proofs.Common.{◌≡◌, ◌+◌, ◌++◌, ◌<◌, ℕ, List, [], ◌∷◌, length, get_or, refl, sym, ◌∙◌, ap, subst, arith}
+use Rattle.std.proofs.Common.{rules, ◌≡◌, ◌+◌, ◌++◌, ◌<◌, ℕ, List, [], ◌∷◌, length, get_or, refl, sym, ◌∙◌, ap, subst, arith}
 use Rattle.std.proofs.lemmas.List.{length_push, append-nil, get_or_append_left}
 use Rattle.std.proofs.lemmas.List.Elements.{Contains-push}
 use Rattle.std.specs.Prelude.{All}
@@ -51,21 +51,28 @@ loop-object-preserved c =
     let rest = c.pop.new.self.items in
     let w = c.in-Some.object in
     let popped = c.in-Some.ensures.items in
-    let grown = c.in_ok-follow.ensures.grown in
+    let grown = c.in_ok-follow.ensures.growth.grown in
     let after = c.follow.new.self in
     record {
       marking = λ roots m. batch_followed image roots (c.reachable_is_the_least_closed.ensures.closed image roots) c.loop-object.self.words w.address c.loop-object.self.bits after.bits c.loop-object.self.stack.items after.stack.items (waiting_addresses batch) (waiting_addresses rest) c.loop-object.self.well_formed after.well_formed words (addresses_push batch rest w popped) (before.marking roots m) grown c.in_ok-follow.ensures.well_formed;
-      inside = subst (λ n. All (λ a. a < n) (waiting_addresses rest)) (sym c.in_ok-follow.ensures.words) (last_inside c.loop-object.self.words batch rest w popped before.inside).1;
+      inside = subst (λ n. All (λ a. a < n) (waiting_addresses rest)) (sym c.in_ok-follow.ensures.growth.words) (last_inside c.loop-object.self.words batch rest w popped before.inside).1;
       fetched = (last_fetched c.args.heap.now.words batch rest w popped before.fetched).1;
       room = grown.room ∙ before.room;
-      total = ap (λ n. length after.stack.items + unmarked n after.bits) c.in_ok-follow.ensures.words ∙ grown.total ∙ before.total;
-      words = c.in_ok-follow.ensures.words ∙ before.words;
+      total = ap (λ n. length after.stack.items + unmarked n after.bits) c.in_ok-follow.ensures.growth.words ∙ grown.total ∙ before.total;
+      words = c.in_ok-follow.ensures.growth.words ∙ before.words;
       batch_capacity = c.in-Some.ensures.capacity ∙ before.batch_capacity;
     }
 
-pub returns-clause-marking : goal.returns-clause-marking
-returns-clause-marking c = λ roots m.
+pub returns : goal.returns
+returns c =
     let image : HeapImage = c.args.heap.now in
     let stack = c.loop-object.self.stack.items in
     let empty : c.loop-object.batch.items ≡ [] = none_left c.loop-object.batch.items (omega (arith, c.in_default.ensures.cases, c.loop-object.batch.ok.0)) in
-    subst (λ xs. IsMarking image roots c.loop-object.self.bits xs c.loop-object.self.well_formed) (ap (λ xs. stack ++ waiting_addresses xs) empty ∙ append-nil stack) (c.loop-object.invariant.marking roots m)
+    let held = c.loop-object.invariant in
+    record {
+      marking = λ roots m. subst (λ xs. IsMarking image roots c.loop-object.self.bits xs c.loop-object.self.well_formed) (ap (λ xs. stack ++ waiting_addresses xs) empty ∙ append-nil stack) (held.marking roots m);
+      total = held.total;
+      empty = search rules;
+      words = held.words;
+      batch_capacity = search rules;
+    }

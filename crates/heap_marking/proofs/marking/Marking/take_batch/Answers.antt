@@ -1,4 +1,4 @@
-use Rattle.std.proofs.Common.{◌≡◌, ◌++◌, ◌<◌, ℕ, [], ◌∷◌, length, get_or, true, refl, sym, ◌∙◌, ap, subst, arith}
+use Rattle.std.proofs.Common.{rules, ◌≡◌, ◌++◌, ◌<◌, ℕ, [], ◌∷◌, length, get_or, true, refl, sym, ◌∙◌, ap, subst, arith}
 use Rattle.std.proofs.lemmas.List.{length_push, append-nil}
 use Rattle.std.proofs.lemmas.List.Elements.{All-push}
 use Rattle.object_heap.specs.HeapImage.{HeapImage}
@@ -13,22 +13,31 @@ pub loop-self-init : goal.loop-self-init
 loop-self-init c =
     let image : HeapImage = c.args.heap.now in
     let stack = c.args.self.now.stack.items in
-    let none : stack ≡ stack ++ waiting_addresses c.args.batch.now.items = sym (ap (λ xs. stack ++ waiting_addresses xs) c.requires.empty ∙ append-nil stack) in
+    let none : stack ≡ stack ++ waiting_addresses c.args.batch.now.items = sym (ap (λ xs. stack ++ waiting_addresses xs) c.requires.batch.empty ∙ append-nil stack) in
     record {
       marking = λ roots m. subst (λ xs. IsMarking image roots c.args.self.now.bits xs c.args.self.now.well_formed) none m;
-      fetched = subst (λ xs. (k : ℕ) → (d : Waiting) → k < length xs → (get_or xs k d).header ≡ get_or c.args.heap.now.words (get_or xs k d).address 0) (sym c.requires.empty) (λ k d l. let no : ⊥ = omega arith in absurd no);
+      fetched = subst (λ xs. (k : ℕ) → (d : Waiting) → k < length xs → (get_or xs k d).header ≡ get_or c.args.heap.now.words (get_or xs k d).address 0) (sym c.requires.batch.empty) (λ k d l. let no : ⊥ = omega arith in absurd no);
       inside = c.requires.inside;
-      total = let empty = ap length c.requires.empty in omega arith;
+      total = let empty = ap length c.requires.batch.empty in omega arith;
       bits = refl;
       words = refl;
       batch_capacity = refl;
     }
 
-pub returns-in_default-clause-marking : goal.returns-in_default-clause-marking
-returns-in_default-clause-marking c = λ roots m.
+pub returns-in_default : goal.returns-in_default
+returns-in_default c =
     let image : HeapImage = c.args.heap.now in
     let same : c.loop-self.self.stack.items ≡ c.pop.new.self.items = c.in_default.ensures.items ∙ append-nil c.pop.new.self.items in
-    subst (λ xs. IsMarking image roots c.loop-self.self.bits (xs ++ waiting_addresses c.loop-self.batch.items) c.loop-self.self.well_formed) same (c.loop-self.invariant.marking roots m)
+    let held = c.loop-self.invariant in
+    record {
+      marking = λ roots m. subst (λ xs. IsMarking image roots c.loop-self.self.bits (xs ++ waiting_addresses c.loop-self.batch.items) c.loop-self.self.well_formed) same (held.marking roots m);
+      fetched = held.fetched;
+      total = search rules;
+      some = search rules;
+      bits = held.bits;
+      words = held.words;
+      batch_capacity = held.batch_capacity;
+    }
 
 pub word-header-requires : goal.word-header-requires
 word-header-requires c =

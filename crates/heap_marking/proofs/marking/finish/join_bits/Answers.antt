@@ -32,11 +32,9 @@ all c =
 whole : (c : goal.After-from_words) → c.from_words.result ≡ take (c.args.words / 64 + 1) (c.loop-part.joined.items ++ 0 ∷ [])
 whole c = c.from_words.ensures ∙ c.truncate.ensures.items ∙ ap (take (c.args.words / 64 + 1)) c.in_ok-push.ensures.items
 
-pub returns-clause-room : goal.returns-clause-room
-returns-clause-room c = ap length (whole c) ∙ whole_room c.args.log c.args.parts.now c.args.words c.loop-part.joined.items (all c) c.requires.covers
-
-pub returns-clause-marks : goal.returns-clause-marks
-returns-clause-marks c = λ a d l low. ap (λ xs. has xs a) (whole c) ∙ whole_marks c.args.log c.args.parts.now c.args.words c.loop-part.joined.items (all c) c.requires.covers a d l low
-
-pub returns-clause-outside : goal.returns-clause-outside
-returns-clause-outside c = λ a high. ap (λ xs. has xs a) (whole c) ∙ whole_outside c.args.log c.args.parts.now c.args.words c.loop-part.joined.items (all c) c.requires.covers a high
+pub returns : goal.returns
+returns c = record {
+  room = ap length (whole c) ∙ whole_room c.args.log c.args.parts.now c.args.words c.loop-part.joined.items (all c) c.requires.covers;
+  marks = λ a d l low. ap (λ xs. has xs a) (whole c) ∙ whole_marks c.args.log c.args.parts.now c.args.words c.loop-part.joined.items (all c) c.requires.covers a d l low;
+  outside = λ a high. ap (λ xs. has xs a) (whole c) ∙ whole_outside c.args.log c.args.parts.now c.args.words c.loop-part.joined.items (all c) c.requires.covers a high;
+}

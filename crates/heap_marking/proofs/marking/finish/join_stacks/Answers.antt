@@ -1,4 +1,4 @@
-use Rattle.std.proofs.Common.{◌++◌, List, sym, ◌∙◌, ap, subst, arith}
+use Rattle.std.proofs.Common.{rules, ◌++◌, List, sym, ◌∙◌, ap, subst, arith}
 use Rattle.heap_marking.specs.declared.marking.part.Part.{Part}
 use Rattle.heap_marking.proofs.Lemmas.Finish.{AreStackedUp, stacked_none, stacked_more}
 use Rattle.heap_marking.proofs.marking.finish.join_stacks.Goals as goal
@@ -19,5 +19,8 @@ loop-part-preserved c =
           (c.in_ok-extend_from_slice.ensures.items ∙ ap (λ xs. stack ++ xs) c.as_slice.ensures.value) c.loop-part.invariant.stacked;
     }
 
-pub returns-clause-all : goal.returns-clause-all
-returns-clause-all c = λ k d a l held. c.loop-part.invariant.stacked.all k d a (omega (arith, l, c.loop-part-test.false)) held
+pub returns : goal.returns
+returns c = record {
+  all = λ k d a l held. c.loop-part.invariant.stacked.all k d a (omega (arith, l, c.loop-part-test.false)) held;
+  from = search rules;
+}

@@ -16,11 +16,11 @@ loop-k-preserved c =
     let before = c.loop-k.invariant in
     let pushed = c.in_ok-push.ensures.items in
     let low = c.loop-k-test.true in
-    let inside : k * 2 ^ log < heap_words image = c.requires.needed k low in
+    let inside : k * 2 ^ log < heap_words image = c.requires.count.needed k low in
     let few = c.is_small.ensures in
     let first : p.first ≡ k * 2 ^ log = omega (arith, c.in_ok-new.ensures.first, inside, few) in
-    let boxes : (b : ℕ) → b < heap_words image → b / 2 ^ log < length p.out = λ b l. let most = c.requires.inside b l in let out = c.in_ok-new.ensures.out in omega (arith, most, out) in
-    let begins : IsPartAt log image k p = part_begins log image k p first inside c.in_ok-new.ensures.bits boxes c.in_ok-new.ensures.unmarked in
+    let boxes : (b : ℕ) → b < heap_words image → b / 2 ^ log < length p.out = λ b l. let most = c.requires.count.inside b l in let out = c.in_ok-new.ensures.out in omega (arith, most, out) in
+    let begins : IsPartAt log image k p = part_begins log image k p c.requires.log first inside c.in_ok-new.ensures.bits boxes c.in_ok-new.ensures.unmarked in
     let count = before.count in
     let here : k ≡ length parts = sym count in
     record {

@@ -28,6 +28,8 @@ loop-self-preserved c =
       running = λ sent p0 h. done.running sent p0 (running_cut log image sent p0 p p' p.stack.items (p'.stack.items ++ waiting_addresses c.take_batch.new.batch.items) taken.first taken.bits taken.out taken.well_formed taken.cut (before.running sent p0 h));
       part = done.part;
       inside = done.inside;
-      batch = done.empty;
-      room = let room = before.room in let one = done.batch_capacity in let two = taken.batch_capacity in omega (arith, room, one, two);
+      batch = record {
+        empty = done.empty;
+        room = let room = before.batch.room in let one = done.batch_capacity in let two = taken.batch_capacity in omega (arith, room, one, two);
+      };
     }

@@ -1,4 +1,4 @@
-use Rattle.std.proofs.Common.{◌≡◌, ◌++◌, ℕ, List, [], ◌∷◌, get_or, ◌∙◌, ap, subst, arith}
+use Rattle.std.proofs.Common.{rules, ◌≡◌, ◌++◌, ℕ, List, [], ◌∷◌, get_or, ◌∙◌, ap, subst, arith}
 use Rattle.std.proofs.lemmas.List.{length_push, append-nil, get_or_append_left, map-append}
 use Rattle.std.proofs.lemmas.List.Elements.{Contains-push}
 use Rattle.std.specs.Prelude.{All}
@@ -53,14 +53,16 @@ loop-object-preserved c =
       batch_capacity = c.in-Some.ensures.capacity ∙ before.batch_capacity;
     }
 
-pub returns-clause-running : goal.returns-clause-running
-returns-clause-running c = λ sent p0 h.
+pub returns : goal.returns
+returns c =
     let p : Part = c.loop-object.self in
     let empty : c.loop-object.batch.items ≡ [] = none_left c.loop-object.batch.items (omega (arith, c.in_default.ensures.cases, c.loop-object.batch.ok.0)) in
-    subst (λ xs. IsRunning c.args.log c.args.heap.now sent p0 p xs) (ap (λ xs. p.stack.items ++ waiting_addresses xs) empty ∙ append-nil p.stack.items) (c.loop-object.invariant.running sent p0 h)
-
-pub returns-clause-inside : goal.returns-clause-inside
-returns-clause-inside c =
-    let p : Part = c.loop-object.self in
-    let empty : c.loop-object.batch.items ≡ [] = none_left c.loop-object.batch.items (omega (arith, c.in_default.ensures.cases, c.loop-object.batch.ok.0)) in
-    subst (λ xs. AreWaitingIn c.args.log (heap_words c.args.heap.now) p xs) (ap (λ xs. p.stack.items ++ waiting_addresses xs) empty ∙ append-nil p.stack.items) c.loop-object.invariant.inside
+    let left : p.stack.items ++ waiting_addresses c.loop-object.batch.items ≡ p.stack.items = ap (λ xs. p.stack.items ++ waiting_addresses xs) empty ∙ append-nil p.stack.items in
+    record {
+      running = λ sent p0 h. subst (λ xs. IsRunning c.args.log c.args.heap.now sent p0 p xs) left (c.loop-object.invariant.running sent p0 h);
+      part = c.loop-object.invariant.part;
+      inside = subst (λ xs. AreWaitingIn c.args.log (heap_words c.args.heap.now) p xs) left c.loop-object.invariant.inside;
+      total = c.loop-object.invariant.total;
+      empty = search rules;
+      batch_capacity = search rules;
+    }

@@ -7,8 +7,8 @@ use Rattle.heap_marking.proofs.Lemmas.Spreads.{spread_as}
 use Rattle.heap_marking.proofs.Lemmas.Running.{target_in}
 use Rattle.heap_marking.proofs.marking.part.Part.take.Goals as goal
 
-pub returns-clause-spread : goal.returns-clause-spread
-returns-clause-spread c =
+pub returns : goal.returns
+returns c =
     let log = c.args.log in
     let w : ℕ = c.args.reference in
     let a : ℕ = w - 1 in
@@ -20,6 +20,12 @@ returns-clause-spread c =
     let inside : IsIn log p a = (low_end, high_end) in
     let p' : Part = c.mark.new.self in
     on_ok_weaker c.mark.result
-    (λ spread. spread_as log c.args.words (leads_to w) (λ b. leads_to w b && is_in log p b) p p' (target_in log w a p same inside)
-    (subst (λ x. IsSpread log c.args.words (leads_to x) p p') (sym same) (spread c.args.words low)))
-    c.mark.ensures.spread
+    (λ taken.
+    let now = taken c.args.words low in
+    record {
+      spread = spread_as log c.args.words (leads_to w) (λ b. leads_to w b && is_in log p b) p p' (target_in log w a p same inside)
+          (subst (λ x. IsSpread log c.args.words (leads_to x) p p') (sym same) now.spread);
+      out = now.out;
+      well_formed = now.well_formed;
+    })
+    c.mark.ensures

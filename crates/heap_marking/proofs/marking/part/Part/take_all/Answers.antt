@@ -36,11 +36,15 @@ loop-boxes-preserved c =
       well_formed = c.in_ok-take_box.ensures.well_formed ∙ before.well_formed;
     }
 
-pub returns-clause-spread : goal.returns-clause-spread
-returns-clause-spread c =
+pub returns : goal.returns
+returns c =
     let sent : List (List (List ℕ)) = c.args.sent.now in
     let i = c.loop-boxes.boxes-index in
     let p0 : Part = c.args.self.now in
     let k : ℕ = p0.first / 2 ^ c.args.log in
-    spread_as c.args.log c.args.words (λ b. arrives (take i sent) k b && is_in c.args.log p0 b) (λ b. arrives sent k b && is_in c.args.log p0 b) p0 c.loop-boxes.self
-    (λ b. ap (λ xs. arrives xs k b && is_in c.args.log p0 b) (sym (take_all i sent (omega (arith, c.loop-boxes-test.false))))) c.loop-boxes.invariant.spread
+    record {
+      spread = spread_as c.args.log c.args.words (λ b. arrives (take i sent) k b && is_in c.args.log p0 b) (λ b. arrives sent k b && is_in c.args.log p0 b) p0 c.loop-boxes.self
+          (λ b. ap (λ xs. arrives xs k b && is_in c.args.log p0 b) (sym (take_all i sent (omega (arith, c.loop-boxes-test.false))))) c.loop-boxes.invariant.spread;
+      out = c.loop-boxes.invariant.out;
+      well_formed = c.loop-boxes.invariant.well_formed;
+    }

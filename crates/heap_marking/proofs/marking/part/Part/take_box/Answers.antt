@@ -31,10 +31,14 @@ loop-reference-preserved c =
       well_formed = c.in_ok-take.ensures.well_formed ∙ before.well_formed;
     }
 
-pub returns-clause-spread : goal.returns-clause-spread
-returns-clause-spread c =
+pub returns : goal.returns
+returns c =
     let references = c.args.references.now in
     let i = c.loop-reference.reference-index in
     let p0 : Part = c.args.self.now in
-    spread_as c.args.log c.args.words (λ b. list_any (λ w. leads_to w b) (take i references) && is_in c.args.log p0 b) (λ b. list_any (λ w. leads_to w b) references && is_in c.args.log p0 b) p0 c.loop-reference.self
-    (λ b. ap (λ xs. list_any (λ w. leads_to w b) xs && is_in c.args.log p0 b) (sym (take_all i references (omega (arith, c.loop-reference-test.false))))) c.loop-reference.invariant.spread
+    record {
+      spread = spread_as c.args.log c.args.words (λ b. list_any (λ w. leads_to w b) (take i references) && is_in c.args.log p0 b) (λ b. list_any (λ w. leads_to w b) references && is_in c.args.log p0 b) p0 c.loop-reference.self
+          (λ b. ap (λ xs. list_any (λ w. leads_to w b) xs && is_in c.args.log p0 b) (sym (take_all i references (omega (arith, c.loop-reference-test.false))))) c.loop-reference.invariant.spread;
+      out = c.loop-reference.invariant.out;
+      well_formed = c.loop-reference.invariant.well_formed;
+    }

@@ -12,7 +12,12 @@ returns-then-a-self-2-clause-spread c =
     let a : ℕ = w - 1 in
     let same : a + 1 ≡ w = omega arith in
     let low : a < c.args.words = omega arith in
-    on_ok_weaker c.mark.result (λ spread. subst (λ x. IsSpread c.args.log c.args.words (leads_to x) c.args.self.now c.mark.new.self) same (spread c.args.words low)) c.mark.ensures.spread
+    on_ok_weaker c.mark.result (λ taken. subst (λ x. IsSpread c.args.log c.args.words (leads_to x) c.args.self.now c.mark.new.self) same (taken c.args.words low).spread) c.mark.ensures
+
+pub returns-then-a-self-2-clause-well_formed : goal.returns-then-a-self-2-clause-well_formed
+returns-then-a-self-2-clause-well_formed c =
+    let low : c.args.reference - 1 < c.args.words = omega arith in
+    on_ok_weaker c.mark.result (λ taken. (taken c.args.words low).well_formed) c.mark.ensures
 
 pub returns-clause-spread : goal.returns-clause-spread
 returns-clause-spread c =

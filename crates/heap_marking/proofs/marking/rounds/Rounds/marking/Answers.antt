@@ -1,4 +1,4 @@
-use Rattle.std.proofs.Common.{◌≡◌, ◌<◌, ◌≤◌, ◌+◌, ◌*◌, ◌/◌, ◌^◌, true, false, List, ℕ, length, get_or, sym, ◌∙◌, ap, subst}
+use Rattle.std.proofs.Common.{rules, ◌≡◌, ◌<◌, ◌≤◌, ◌+◌, ◌*◌, ◌/◌, ◌^◌, true, false, List, ℕ, length, get_or, sym, ◌∙◌, ap, subst}
 use Rattle.std.specs.Prelude.{All, Contains}
 use Rattle.object_heap.specs.HeapImage.{HeapImage, heap_words}
 use Rattle.object_heap.specs.Bits.{has}
@@ -9,17 +9,18 @@ use Rattle.heap_marking.specs.declared.marking.part.Part.{Part}
 use Rattle.heap_marking.proofs.Lemmas.Finish.{layout_covers, marking_goes_on}
 use Rattle.heap_marking.proofs.marking.rounds.Rounds.marking.Goals as goal
 
-pub join_bits-requires-clause-covers : goal.join_bits-requires-clause-covers
-join_bits-requires-clause-covers c =
-    subst (λ (xs : List Part). c.len-words.result ≤ length xs * 2 ^ c.args.self.now.log) (sym c.as_slice-parts.ensures.value)
-    (layout_covers c.args.self.now.log c.args.heap.now c.args.self.now.parts.items c.args.self.now.sent.items c.len-words.result c.len-words.ensures.value c.requires.layout)
+pub join_bits-requires : goal.join_bits-requires
+join_bits-requires c = record {
+  low = c.requires.low;
+  high = c.requires.layout.small;
+  few = search rules;
+  covers = subst (λ (xs : List Part). c.len-words.result ≤ length xs * 2 ^ c.args.self.now.log) (sym c.as_slice-parts.ensures.value)
+      (layout_covers c.args.self.now.log c.args.heap.now c.args.self.now.parts.items c.args.self.now.sent.items c.len-words.result c.len-words.ensures.value c.requires.layout);
+  bits = subst (All (λ (p : Part). 2 ^ c.args.self.now.log < 64 * length p.bits)) (sym c.as_slice-parts.ensures.value) (λ k d l. (c.requires.layout.parts_are k d l).part.bits);
+}
 
-pub join_bits-requires-clause-bits : goal.join_bits-requires-clause-bits
-join_bits-requires-clause-bits c =
-    subst (All (λ (p : Part). 2 ^ c.args.self.now.log < 64 * length p.bits)) (sym c.as_slice-parts.ensures.value) (λ k d l. (c.requires.layout.parts_are k d l).part.bits)
-
-pub returns-clause-marking : goal.returns-clause-marking
-returns-clause-marking c = λ roots state.
+pub returns : goal.returns
+returns c =
     let log = c.args.self.now.log in
     let image : HeapImage = c.args.heap.now in
     let parts : List Part = c.args.self.now.parts.items in
@@ -34,7 +35,7 @@ returns-clause-marking c = λ roots state.
     let visited = c.in_ok-visit_rows.ensures in
     let grown : IsGrown (heap_words image) (arrives_anywhere sent) bits new.bits stack new.stack.items =
     subst (λ n. IsGrown n (arrives_anywhere sent) bits new.bits stack new.stack.items) words
-    (subst (λ rows. IsGrown c.len-words.result (arrives_anywhere rows) bits new.bits stack new.stack.items) c.as_slice.ensures.value visited.grown) in
+    (subst (λ rows. IsGrown c.len-words.result (arrives_anywhere rows) bits new.bits stack new.stack.items) c.as_slice.ensures.value visited.growth.grown) in
     let room : length bits ≡ heap_words image / 64 + 1 = joined.room ∙ ap (λ n. n / 64 + 1) words in
     let marks : (a : ℕ) (d : Part) → a / 64 < heap_words image / 64 + 1 → a / 2 ^ log < length parts → has bits a ≡ mark_of log parts a d =
     subst (λ n. (a : ℕ) (d : Part) → a / 64 < n / 64 + 1 → a / 2 ^ log < length parts → has bits a ≡ mark_of log parts a d) words
@@ -46,5 +47,8 @@ returns-clause-marking c = λ roots state.
     let from : (a : ℕ) → Contains stack a → WaitsIn parts a =
     subst (λ (xs : List Part). (a : ℕ) → Contains stack a → WaitsIn xs a) value stacked.from in
     let flags : c.are_well_formed.result ≡ true → All (λ p. p.well_formed ≡ true) parts = λ said. subst (All (λ p. p.well_formed ≡ true)) value (c.are_well_formed.ensures said) in
-    marking_goes_on log image parts sent c.requires.layout roots state (c.reachable_is_the_least_closed.ensures.closed image roots) bits new.bits stack new.stack.items c.are_well_formed.result new.well_formed
-    room marks outside all from flags visited.well_formed grown
+    record {
+      words = search rules;
+      marking = λ roots state. marking_goes_on log image parts sent c.requires.layout roots state (c.reachable_is_the_least_closed.ensures.closed image roots) bits new.bits stack new.stack.items c.are_well_formed.result new.well_formed
+          room marks outside all from flags visited.well_formed grown;
+    }

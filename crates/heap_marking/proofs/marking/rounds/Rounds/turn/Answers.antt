@@ -22,8 +22,8 @@ module _ (log log' : ℕ) (image : HeapImage) (parts mid parts' parts'' : List P
       (subst (λ xs. IsState log image roots xs sent'') (sym parts_same)
       (subst (λ ys. IsState log image roots parts' ys) (sym sent_same) (turned_state log image parts mid parts' sent sent' layout turned fine exchanged roots state)))
 
-pub returns-clause-layout : goal.returns-clause-layout
-returns-clause-layout g c =
+pub returns : goal.returns
+returns g c =
     let old = c.args.self.now in
     let mid = c.turn_all.new.self in
     let parts' : List Part = c.exchange.new.parts in
@@ -34,22 +34,11 @@ returns-clause-layout g c =
     subst (λ xs. AreExchanged xs parts' old.sent.items sent') parts_value (subst (λ ys. AreExchanged c.as_mut_slice.result.now parts' ys sent') sent_value c.exchange.ensures) in
     let parts_count = exchanged.parts_count in
     let sent_count = c.exchange.ensures.sent_count ∙ ap length c.as_mut_slice-2.ensures.value in
-    layout_after old.log mid.log c.args.heap.now old.parts.items mid.parts.items parts' _ old.sent.items sent' _ c.turn_all.ensures.log
-    (written mid.parts.len parts' mid.parts.items (omega (arith, parts_count, mid.parts.ok.0))) (written mid.sent.len sent' mid.sent.items (omega (arith, sent_count, mid.sent.ok.0)))
-    c.requires.layout c.turn_all.ensures.turned (subst (All (λ p. p.failed ≡ false)) c.as_slice.ensures.value (c.has_failed.ensures c.if-has_failed.false)) exchanged
-
-pub returns-clause-state : goal.returns-clause-state
-returns-clause-state g c =
-    let old = c.args.self.now in
-    let mid = c.turn_all.new.self in
-    let parts' : List Part = c.exchange.new.parts in
-    let sent' : List (List (List ℕ)) = c.exchange.new.sent in
-    let parts_value = c.as_mut_slice.ensures.value in
-    let sent_value = c.as_mut_slice-2.ensures.value ∙ ap (λ v. v.items) c.turn_all.ensures.sent in
-    let exchanged : AreExchanged mid.parts.items parts' old.sent.items sent' =
-    subst (λ xs. AreExchanged xs parts' old.sent.items sent') parts_value (subst (λ ys. AreExchanged c.as_mut_slice.result.now parts' ys sent') sent_value c.exchange.ensures) in
-    let parts_count = exchanged.parts_count in
-    let sent_count = c.exchange.ensures.sent_count ∙ ap length c.as_mut_slice-2.ensures.value in
-    state_after old.log mid.log c.args.heap.now old.parts.items mid.parts.items parts' _ old.sent.items sent' _ c.turn_all.ensures.log
-    (written mid.parts.len parts' mid.parts.items (omega (arith, parts_count, mid.parts.ok.0))) (written mid.sent.len sent' mid.sent.items (omega (arith, sent_count, mid.sent.ok.0)))
-    c.requires.layout c.turn_all.ensures.turned (subst (All (λ p. p.failed ≡ false)) c.as_slice.ensures.value (c.has_failed.ensures c.if-has_failed.false)) exchanged
+    let fine = subst (All (λ p. p.failed ≡ false)) c.as_slice.ensures.value (c.has_failed.ensures c.if-has_failed.false) in
+    let parts_written = written mid.parts.len parts' mid.parts.items (omega (arith, parts_count, mid.parts.ok.0)) in
+    let sent_written = written mid.sent.len sent' mid.sent.items (omega (arith, sent_count, mid.sent.ok.0)) in
+    record {
+      log = c.turn_all.ensures.log;
+      layout = layout_after old.log mid.log c.args.heap.now old.parts.items mid.parts.items parts' _ old.sent.items sent' _ c.turn_all.ensures.log parts_written sent_written c.requires.layout c.turn_all.ensures.turned fine exchanged;
+      state = λ roots. state_after old.log mid.log c.args.heap.now old.parts.items mid.parts.items parts' _ old.sent.items sent' _ c.turn_all.ensures.log parts_written sent_written c.requires.layout c.turn_all.ensures.turned fine exchanged roots;
+    }

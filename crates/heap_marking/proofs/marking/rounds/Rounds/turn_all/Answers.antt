@@ -13,4 +13,4 @@ for_each_mut-requires-clause-accepts g c = λ κs within i p l is.
     let low : i < length parts = subst (λ xs. i < length xs) value l in
     let here : p.now ≡ get_or parts i p.now = is ∙ ap (λ xs. get_or xs i p.now) value in
     let at = subst (IsPartAt log image i) (sym here) (c.requires.layout.parts_are i p.now low) in
-    (c.requires.log, at.part, at.waiting, subst (AreRows log (heap_words image)) (sym c.as_slice-sent.ensures.value) c.requires.layout.boxes)
+    record { part = at.part; waiting = at.waiting; rows = subst (AreRows log (heap_words image)) (sym c.as_slice-sent.ensures.value) c.requires.layout.boxes }
