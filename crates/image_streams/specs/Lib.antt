@@ -8,3 +8,4 @@ pub mod Body
 pub mod Reading
 pub mod RegionSource
 pub mod Extents
+pub mod Cursor

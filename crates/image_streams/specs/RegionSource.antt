@@ -17,6 +17,11 @@ pub record HasRegions (source : RegionSource) (size count : ℕ) : Type 0 where
   pub inside : IfSome source.pool (λ pool. source.first + count ≤ pool.now.count)
   pub fits : source.first + count < 2 ^ 64
 
+-- the regions of a body of this size are not too large, and the source has them
+pub record HasRegionsFor (source : RegionSource) (size : BodySize) : Type 0 where
+  pub log : size.region_log ≤ 20
+  pub regions : HasRegions source (2 ^ size.region_log) size.regions
+
 -- the source has the regions of the body in this extent
 pub record HasPlace (source : RegionSource) (extent : Extent) : Type 0 where
   pub is : IsExtent extent

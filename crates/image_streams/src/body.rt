@@ -6,7 +6,7 @@ ghost use Rattle.image_streams.specs.Body.{IsBody, body_words, IsOfBody};
 ghost use Rattle.image_streams.specs.Device.{is_io};
 ghost use Rattle.image_streams.specs.Incoming.{FallsShort};
 ghost use Rattle.image_streams.specs.Reading.{AreRegions, Draws, IsDue, Reads, ReadsBody};
-ghost use Rattle.image_streams.specs.RegionSource.{HasRegions};
+ghost use Rattle.image_streams.specs.RegionSource.{HasRegionsFor};
 
 use crate::numbers::incoming::Incoming;
 use crate::region_source::RegionSource;
@@ -33,13 +33,12 @@ impl Body {
         reader: &mut R,
         size: BodySize,
     ) -> Result<Body, Fault>
-        requires log { size.region_log ≤ 20 }
-        requires source { HasRegions source.now (2 ^ size.region_log) size.regions }
+        requires source { HasRegionsFor source.now size }
         requires due { IsDue incoming.old (body_words size) }
         ensures body { IfOk result (ReadsBody R.left size incoming.old incoming.new reader.old reader.new) }
         ensures device { Draws IsOfBody R.left R.has_failed incoming.old reader.old reader.new result }
     {
-        let regions = read_regions(source, incoming, reader, size.region_log, size.regions)?;
+        let regions = read_regions(source, incoming, reader, size)?;
         let mut tail = vec![in source.alloc; 0u64; size.numbers]?;
         incoming.read(reader, tail.as_mut_slice())?;
         Ok(Body { regions, tail })
@@ -69,29 +68,27 @@ pub fn read_body_in_order<R: Intake>(
     Body::read(&source, &mut incoming, reader, size)
 }
 
-/// Reads the words of `count` regions of this source. If each is a block of its own, it takes memory as the words come:
+/// Reads the words of the regions of a body of this size into regions of this source. If each is a block of its own, it takes memory as the words come:
 /// for at most one region more than have come, and for twice as many blocks.
 fn read_regions<R: Intake>(
     source: &RegionSource<'_>,
     incoming: &mut Incoming<'_>,
     reader: &mut R,
-    region_log: u32,
-    count: usize,
+    size: BodySize,
 ) -> Result<Vec<Region>, Fault>
-    requires log { region_log ≤ 20 }
-    requires source { HasRegions source.now (2 ^ region_log) count }
-    requires due { IsDue incoming.old (count * 2 ^ region_log) }
+    requires source { HasRegionsFor source.now size }
+    requires due { IsDue incoming.old (size.regions * 2 ^ size.region_log) }
     ensures words { IfOk result
         (λ regions. Reads R.left incoming.old incoming.new reader.old reader.new (concat regions.items)) }
-    ensures regions { IfOk result (λ regions. AreRegions (2 ^ region_log) count regions.items) }
+    ensures regions { IfOk result (λ regions. AreRegions (2 ^ size.region_log) size.regions regions.items) }
     ensures device { Draws IsOfBody R.left R.has_failed incoming.old reader.old reader.new result }
 {
-    let mut regions = source.list(count)?;
-    if count == 0 {
+    let mut regions = source.list(size.regions)?;
+    if size.regions == 0 {
         return Ok(regions);
     }
-    let mut words = vec![in source.alloc; 0u64; 1 << region_log]?;
-    for r in 0..count {
+    let mut words = vec![in source.alloc; 0u64; 1 << size.region_log]?;
+    for r in 0..size.regions {
         let words = words.as_mut_slice();
         incoming.read(reader, words)?;
         regions.push(source.region(r, words)?)?;

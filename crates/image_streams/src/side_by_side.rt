@@ -1,7 +1,7 @@
 //! Reads the body of an image from a store in several threads.
-ghost use Rattle.std.specs.Prelude.{◌≡◌, ◌++◌, ◌<◌, ◌≤◌, ◌^◌, [], IfSome};
+ghost use Rattle.std.specs.Prelude.{◌≡◌, ◌<◌, ◌≤◌, ◌^◌, [], IfSome};
 ghost use Rattle.image_streams.specs.Body.{body_words};
-ghost use Rattle.image_streams.specs.Extents.{IsBodyOf, AreTwoParts, IsExtent, extent_end};
+ghost use Rattle.image_streams.specs.Extents.{IsBodyOf, AreJoined, AreTwoParts, IsExtent, extent_end};
 ghost use Rattle.image_streams.specs.RegionSource.{HasPlace, HasRest};
 
 use crate::cursor::Cursor;
@@ -158,8 +158,7 @@ fn body_in_order<S: Store>(source: RegionSource<'_>, store: &S, extent: Extent) 
 /// Joins two bodies, of which the first has regions only. Returns `None` if memory runs out.
 fn join_bodies(first: Body, second: Body) -> Option<Body>
     requires { first.tail.items ≡ [] }
-    ensures { IfSome result (λ body. (body.regions.items ≡ first.regions.items ++ second.regions.items)
-        × (body.tail.items ≡ second.tail.items)) }
+    ensures { IfSome result (AreJoined first second) }
 {
     let mut regions = first.regions;
     let mut others = second.regions;

@@ -1,5 +1,5 @@
 -- What is taken of a device over several calls.
-use Rattle.std.proofs.Common.{◌≡◌, ℕ, ◌+◌, List, [], ◌++◌, length, inl, inr, refl, sym, ◌∙◌, ap, subst, Bool, Option, Ok, Err}
+use Rattle.std.proofs.Common.{◌≡◌, ℕ, ◌+◌, List, ◌++◌, length, inl, inr, refl, sym, ◌∙◌, ap, subst, Bool, Option, Ok, Err}
 use Rattle.std.specs.Prelude.{◌||◌}
 use Rattle.std.specs.Io.KnownBytes.{Consumes}
 use Rattle.image_streams.specs.Body.{IsOfBody}

@@ -83,8 +83,7 @@ impl<'a> Incoming<'a> {
     fn peek(&self, words: &mut [u64])
         requires in_range { IsInRange self.now }
         requires held { self.now.start + length words.old ≤ self.now.end }
-        ensures length { length words.new ≡ length words.old }
-        ensures words { numbers words.new ≡ slice_range self.now.bytes.now (8 * self.now.start) (8 * (self.now.start + length words.old)) }
+        ensures { numbers words.new ≡ slice_range self.now.bytes.now (8 * self.now.start) (8 * (self.now.start + length words.old)) }
     {
         let from = 8 * self.start;
         read_all(&self.bytes[from..from + 8 * words.len()], words);
@@ -94,7 +93,6 @@ impl<'a> Incoming<'a> {
 /// Fills the first `count` bytes of a buffer.
 fn fill_first<R: Intake>(reader: &mut R, bytes: &mut [u8], count: usize) -> Result<(), Fault>
     requires { count ≤ length bytes.old }
-    ensures length { length bytes.new ≡ length bytes.old }
     ensures bytes { OnOk result (Consumes (R.left reader.old) (R.left reader.new) (take count bytes.new)) }
     ensures device { Takes IsOfDevice R.left R.has_failed (R.left reader.old) count reader.old reader.new result }
 {

@@ -23,8 +23,8 @@ returns-in_err-read-clause-device g c =
     let p = err_from_is_err_and c.from_residual-in_err-read.result c.from_residual-in_err-read.ensures.1 in
     let so_far = c.loop-r.invariant in
     let regions = c.loop-r.regions.items in
-    let long = length-concat (2 ^ c.args.region_log) regions so_far.whole in
-    let counted : length regions * 2 ^ c.args.region_log ≡ c.loop-r.r * 2 ^ c.args.region_log = ap (λ n. n * 2 ^ c.args.region_log) so_far.count in
+    let long = length-concat (2 ^ c.args.size.region_log) regions so_far.whole in
+    let counted : length regions * 2 ^ c.args.size.region_log ≡ c.loop-r.r * 2 ^ c.args.size.region_log = ap (λ n. n * 2 ^ c.args.size.region_log) so_far.count in
     let same = so_far.expected in
     let fewer : expected c.loop-r.incoming + length (concat regions) ≡ expected c.args.incoming.now = omega arith in
     rw (p.1, p.2) (draws_after IsOfDevice IsOfBody g.R.Intake.left g.R.Intake.has_failed c.args.incoming.now c.loop-r.incoming c.args.reader.now c.loop-r.reader c.read.new.reader (concat regions) c.in_err-read.field-0.0 so_far.bytes fewer so_far.lost so_far.failed (of_body c.in_err-read.field-0.0) c.in_err-read.ensures.device)
@@ -47,7 +47,7 @@ returns-in_err-push-clause-device g c =
 
 pub region-requires-clause-few : goal.region-requires-clause-few
 region-requires-clause-few g c =
-    let few : 2 ^ c.args.region_log ≤ 2 ^ 20 = pow-le-pow_right {n = 2} (omega arith) c.requires.log in
+    let few : 2 ^ c.args.size.region_log ≤ 2 ^ 20 = pow-le-pow_right {n = 2} (omega arith) c.requires.source.log in
     let lent = c.as_mut_slice-words.ensures.len ∙ c.loop-r.invariant.words in
     omega arith
 
@@ -64,7 +64,7 @@ loop-r-preserved g c =
     let read = c.in_ok-read.ensures.words in
     let fewer = read.fewer in
     let lent = c.as_mut_slice-words.ensures.len ∙ so_far.words in
-    let whole : length region ≡ 2 ^ c.args.region_log = c.read.auto.words ∙ lent in
+    let whole : length region ≡ 2 ^ c.args.size.region_log = c.read.auto.words ∙ lent in
     let before = known_rest c.args.incoming.now (g.R.Intake.left c.args.reader.now) in
     let after = known_rest c.read.new.self (g.R.Intake.left c.read.new.reader) in
     let grown : concat regions ++ region ≡ concat c.push.new.self.items = ap (λ xs. concat regions ++ xs) (sym (append-nil region)) ∙ sym (concat-append regions (region ∷ [])) ∙ ap concat (sym pushed) in
@@ -73,7 +73,7 @@ loop-r-preserved g c =
       in_range = read.in_range;
       count = omega arith;
       words = so_far.words;
-      whole = subst (λ blocks. (k : ℕ) → (d : List ℕ) → k < length blocks → length (get_or blocks k d) ≡ 2 ^ c.args.region_log) (sym pushed) (All-push (λ block. length block ≡ 2 ^ c.args.region_log) regions region so_far.whole whole);
+      whole = subst (λ blocks. (k : ℕ) → (d : List ℕ) → k < length blocks → length (get_or blocks k d) ≡ 2 ^ c.args.size.region_log) (sym pushed) (All-push (λ block. length block ≡ 2 ^ c.args.size.region_log) regions region so_far.whole whole);
       fit = subst (λ ws. All (λ w. w < 2 ^ 64) ws) grown (All-append (λ w. w < 2 ^ 64) (concat regions) region so_far.fit c.read.ensures.fit);
       expected = omega arith;
       bytes = subst (λ bytes. Consumes before after bytes) joined (consumes_more before (known_rest c.loop-r.incoming (g.R.Intake.left c.loop-r.reader)) after (numbers (concat regions)) (numbers region) so_far.bytes read.bytes);
@@ -84,17 +84,17 @@ loop-r-preserved g c =
 pub returns-clause-words : goal.returns-clause-words
 returns-clause-words g c =
     let so_far = c.loop-r.invariant in
-    let long = length-concat (2 ^ c.args.region_log) c.loop-r.regions.items so_far.whole in
-    let counted : length c.loop-r.regions.items * 2 ^ c.args.region_log ≡ c.loop-r.r * 2 ^ c.args.region_log = ap (λ n. n * 2 ^ c.args.region_log) so_far.count in
+    let long = length-concat (2 ^ c.args.size.region_log) c.loop-r.regions.items so_far.whole in
+    let counted : length c.loop-r.regions.items * 2 ^ c.args.size.region_log ≡ c.loop-r.r * 2 ^ c.args.size.region_log = ap (λ n. n * 2 ^ c.args.size.region_log) so_far.count in
     let same = so_far.expected in
     record { in_range = so_far.in_range; fewer = omega arith; bytes = so_far.bytes }
 
 pub returns-clause-regions : goal.returns-clause-regions
 returns-clause-regions g c =
     let so_far = c.loop-r.invariant in
-    let long = length-concat (2 ^ c.args.region_log) c.loop-r.regions.items so_far.whole in
+    let long = length-concat (2 ^ c.args.size.region_log) c.loop-r.regions.items so_far.whole in
     let last = c.loop-r-test.false in
     let first = c.loop-r.auto in
-    let is : c.loop-r.r ≡ c.args.count = omega arith in
-    let all : length c.loop-r.regions.items ≡ c.args.count = so_far.count ∙ is in
-    record { whole = so_far.whole; counted = all; fit = so_far.fit; words = long ∙ ap (λ n. n * 2 ^ c.args.region_log) all }
+    let is : c.loop-r.r ≡ c.args.size.regions = omega arith in
+    let all : length c.loop-r.regions.items ≡ c.args.size.regions = so_far.count ∙ is in
+    record { whole = so_far.whole; counted = all; fit = so_far.fit; words = long ∙ ap (λ n. n * 2 ^ c.args.size.region_log) all }

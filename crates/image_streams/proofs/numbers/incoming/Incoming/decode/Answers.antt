@@ -14,13 +14,13 @@ returns c =
     let least = c.min-n.ensures in
     let range = c.requires in
     let some = length-take n c.args.words.now in
-    let long : length c.peek.new.words ≡ n = c.peek.ensures.length ∙ omega arith in
+    let long : length c.peek.new.words ≡ n = c.peek.auto.words ∙ omega arith in
     let count : start + n ≡ start + length (take n c.args.words.now) = omega arith in
     record {
       in_range = search rules;
       within = search rules;
       some = search rules;
       bytes = slice_split bytes (8 * start) (8 * (start + n)) (8 * end) (omega arith) (omega arith)
-          ∙ ap (λ p. p ++ slice_range bytes (8 * (start + n)) (8 * end)) (ap (λ k. slice_range bytes (8 * start) (8 * k)) count ∙ sym c.peek.ensures.words ∙ ap numbers (sym (take_at c.peek.new.words (drop n c.args.words.now) n long)));
+          ∙ ap (λ p. p ++ slice_range bytes (8 * (start + n)) (8 * end)) (ap (λ k. slice_range bytes (8 * start) (8 * k)) count ∙ sym c.peek.ensures ∙ ap numbers (sym (take_at c.peek.new.words (drop n c.args.words.now) n long)));
       fewer = search rules;
     }
