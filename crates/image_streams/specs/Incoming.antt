@@ -28,7 +28,7 @@ pub record IsEmptyFor (count : ℕ) (i : Incoming) : Type 0 where
   pub none_held : i.start ≡ i.end
   pub in_range : IsInRange i
 
--- the first n buffered numbers became the first of these words, and n is not 0 without cause
+-- the first n buffered numbers became the first of these words, at least one if there is one and a word for it
 pub record Decodes (old new : Incoming) (words : List ℕ) (n : ℕ) : Type 0 where
   pub in_range : IsInRange new
   pub within : n ≤ length words

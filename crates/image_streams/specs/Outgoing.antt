@@ -18,7 +18,7 @@ pub record HasRoomForMore (o : Outgoing) : Type 0 where
   pub room : HasRoom o
   pub more : 8 * o.end + 8 ≤ length o.bytes.now
 
--- the first n of these numbers are buffered behind the others, and if there was room, n is not 0 without cause
+-- the first n of these numbers are buffered behind the others, at least one if there is one and room for it
 pub record Buffers (old new : Outgoing) (words : List ℕ) (n : ℕ) : Type 0 where
   pub room : HasRoom new
   pub within : n ≤ length words

@@ -27,17 +27,17 @@ pub record Reads {S : Type 0} (left : S → Option (List ℕ)) (old new : Incomi
   pub fewer : expected new + length words ≡ expected old
   pub bytes : Consumes (known_rest old (left before)) (known_rest new (left after)) (numbers words)
 
--- The buffer holds a number, if one is expected, and none was read. If it was empty and some were due, a byte came.
-pub record TopsUp {S : Type 0} (left : S → Option (List ℕ)) (old new : Incoming) (before after : S) : Type 0 where
-  pub none : Reads left old new before after []
-  pub some : 0 < expected old → new.start < new.end
-  pub came : old.start ≡ old.end → 0 < old.due → IfSome (left before) (λ rest. 0 < length rest)
-
 -- the same of the numbers of a body
 pub record ReadsBody {S : Type 0} (left : S → Option (List ℕ)) (size : BodySize) (old new : Incoming) (before after : S) (body : Body) : Type 0 where
   pub in_range : IsInRange new
   pub fewer : expected new + body_words size ≡ expected old
   pub is : IsBody size (known_rest old (left before)) (known_rest new (left after)) body
+
+-- The buffer holds a number, if one is expected, and none was read. If it was empty and some were due, a byte came.
+pub record TopsUp {S : Type 0} (left : S → Option (List ℕ)) (old new : Incoming) (before after : S) : Type 0 where
+  pub none : Reads left old new before after []
+  pub some : 0 < expected old → new.start < new.end
+  pub came : old.start ≡ old.end → 0 < old.due → IfSome (left before) (λ rest. 0 < length rest)
 
 -- Whatever the result: what was taken of the device, whether it failed, and which faults there may be. If one is that too few
 -- bytes came, the device is at its end, and these known bytes were fewer than wanted.

@@ -68,8 +68,8 @@ pub fn read_body_in_order<R: Intake>(
     Body::read(&source, &mut incoming, reader, size)
 }
 
-/// Reads the words of the regions of a body of this size into regions of this source. If each is a block of its own, it takes memory as the words come:
-/// for at most one region more than have come, and for twice as many blocks.
+/// Reads the words of the regions of a body of this size into regions of this source. If each is a block of its own, it
+/// takes memory as the words come: for at most one region more than have come, and for twice as many blocks.
 fn read_regions<R: Intake>(
     source: &RegionSource<'_>,
     incoming: &mut Incoming<'_>,
