@@ -1,5 +1,5 @@
 -- The body of an image: what follows its front.
-use Rattle.std.specs.Prelude.{◌≡◌, ℕ, ◌+◌, ◌*◌, ◌^◌, ◌<◌, ◌++◌, ◌⊎◌, All, Option, List, length}
+use Rattle.std.specs.Prelude.{◌≡◌, ℕ, ◌+◌, ◌*◌, ◌^◌, ◌<◌, ◌≤◌, ◌++◌, ◌⊎◌, All, Option, List, length}
 use Rattle.std.specs.List.{concat}
 use Rattle.std.specs.Io.KnownBytes.{Consumes}
 use Rattle.image_streams.specs.Numbers.{numbers}
@@ -11,6 +11,11 @@ use Rattle.image_streams.specs.declared.fault.Fault.TheVariants.{TruncatedBody, 
 -- the number of words of the regions and the numbers after them
 abbrev pub body_words : BodySize → ℕ
 body_words size = size.regions * 2 ^ size.region_log + size.numbers
+
+-- the regions are not too large, and the number of words fits in 64 bits
+pub record HasFewWords (size : BodySize) : Type 0 where
+  pub log : size.region_log ≤ 20
+  pub fits : body_words size < 2 ^ 64
 
 -- a body of this size, whose words are the known bytes that were left before and aren't left after
 pub record IsBody (size : BodySize) (before after : Option (List ℕ)) (body : Body) : Type 0 where

@@ -1,5 +1,5 @@
 -- Bytes at offsets, and the bodies of images among them.
-use Rattle.std.specs.Prelude.{◌≡◌, ℕ, ◌+◌, ◌*◌, ◌^◌, ◌<◌, ◌≤◌, List, Option, drop, option_map}
+use Rattle.std.specs.Prelude.{◌≡◌, ℕ, ◌+◌, ◌*◌, ◌^◌, ◌<◌, ◌≤◌, ◌++◌, List, Option, drop, option_map}
 use Rattle.image_streams.specs.Body.{IsBody, body_words}
 use Rattle.image_streams.specs.declared.body.Body.{Body}
 use Rattle.image_streams.specs.declared.side_by_side.Extent.{Extent}
@@ -27,6 +27,11 @@ pub record AreTwoParts (extent low high : Extent) : Type 0 where
   pub none : low.size.numbers ≡ 0
   pub numbers : high.size.numbers ≡ extent.size.numbers
   pub end : extent_end high ≡ extent_end extent
+
+-- the regions of both bodies, in order, and the numbers of the second
+pub record AreJoined (first second whole : Body) : Type 0 where
+  pub regions : whole.regions.items ≡ first.regions.items ++ second.regions.items
+  pub tail : whole.tail.items ≡ second.tail.items
 
 -- this is the body in an extent of these bytes, if the bytes are known
 abbrev pub IsBodyOf : Option (List ℕ) → Extent → Body → Type 0

@@ -3,6 +3,9 @@ pub mod Device
 pub mod StdDevices
 pub mod Incoming
 pub mod Outgoing
+pub mod Sending
 pub mod Body
+pub mod Reading
 pub mod RegionSource
 pub mod Extents
+pub mod Cursor

@@ -1,12 +1,12 @@
 //! The body: the part of an image's text after its front.
-ghost use Rattle.std.specs.Prelude.{◌≡◌, ◌<◌, ◌≤◌, ◌+◌, ◌*◌, ◌^◌, ◌||◌, ℕ, List, All, length, OnOk, IfOk, IfErr, IfSome, Err};
+ghost use Rattle.std.specs.Prelude.{◌≡◌, ◌<◌, ◌≤◌, ◌*◌, ◌^◌, ◌||◌, ℕ, List, length, IfOk, IfErr, IfSome, Err};
 ghost use Rattle.std.specs.List.{concat};
 ghost use Rattle.std.specs.Io.KnownBytes.{Consumes};
 ghost use Rattle.image_streams.specs.Body.{IsBody, body_words, IsOfBody};
 ghost use Rattle.image_streams.specs.Device.{is_io};
-ghost use Rattle.image_streams.specs.Incoming.{IsInRange, FallsShort, expected, known_rest};
-ghost use Rattle.image_streams.specs.Numbers.{numbers};
-ghost use Rattle.image_streams.specs.RegionSource.{HasRegions};
+ghost use Rattle.image_streams.specs.Incoming.{FallsShort};
+ghost use Rattle.image_streams.specs.Reading.{AreRegions, Draws, IsDue, Reads, ReadsBody};
+ghost use Rattle.image_streams.specs.RegionSource.{HasRegionsFor};
 
 use crate::numbers::incoming::Incoming;
 use crate::region_source::RegionSource;
@@ -33,21 +33,12 @@ impl Body {
         reader: &mut R,
         size: BodySize,
     ) -> Result<Body, Fault>
-        requires log { size.region_log ≤ 20 }
-        requires source { HasRegions source.now (2 ^ size.region_log) size.regions }
-        requires in_range { IsInRange incoming.old }
-        requires enough { body_words size ≤ expected incoming.old }
-        ensures in_range { OnOk result (IsInRange incoming.new) }
-        ensures expected { OnOk result (expected incoming.new + body_words size ≡ expected incoming.old) }
-        ensures body { IfOk result (IsBody size
-            (known_rest incoming.old (R.left reader.old)) (known_rest incoming.new (R.left reader.new))) }
-        ensures truncated { result ≡ Err Fault.TruncatedBody → FallsShort
-            (known_rest incoming.old (R.left reader.old)) (R.left reader.new) (expected incoming.old) }
-        ensures fault { IfErr result IsOfBody }
-        ensures lost { (came : List ℕ) × Consumes (R.left reader.old) (R.left reader.new) came }
-        ensures failed { R.has_failed reader.new ≡ (is_io result || R.has_failed reader.old) }
+        requires source { HasRegionsFor source.now size }
+        requires due { IsDue incoming.old (body_words size) }
+        ensures body { IfOk result (ReadsBody R.left size incoming.old incoming.new reader.old reader.new) }
+        ensures device { Draws IsOfBody R.left R.has_failed incoming.old reader.old reader.new result }
     {
-        let regions = read_regions(source, incoming, reader, size.region_log, size.regions)?;
+        let regions = read_regions(source, incoming, reader, size)?;
         let mut tail = vec![in source.alloc; 0u64; size.numbers]?;
         incoming.read(reader, tail.as_mut_slice())?;
         Ok(Body { regions, tail })
@@ -64,10 +55,8 @@ pub fn read_body_in_order<R: Intake>(
     requires some { 0 < body_words size }
     requires few { body_words size ≤ 137438953472 }
     ensures body { IfOk result (IsBody size (R.left reader.old) (R.left reader.new)) }
-    ensures truncated { result ≡ Err Fault.TruncatedBody → FallsShort
-        (R.left reader.old) (R.left reader.new) (body_words size) }
-    ensures memory { result ≡ Err Fault.Memory
-        → IfSome (R.left reader.old) (λ rest. 0 < length rest) }
+    ensures truncated { result ≡ Err Fault.TruncatedBody → FallsShort (R.left reader.old) (R.left reader.new) (body_words size) }
+    ensures memory { result ≡ Err Fault.Memory → IfSome (R.left reader.old) (λ rest. 0 < length rest) }
     ensures fault { IfErr result IsOfBody }
     ensures lost { (came : List ℕ) × Consumes (R.left reader.old) (R.left reader.new) came }
     ensures failed { R.has_failed reader.new ≡ (is_io result || R.has_failed reader.old) }
@@ -79,75 +68,30 @@ pub fn read_body_in_order<R: Intake>(
     Body::read(&source, &mut incoming, reader, size)
 }
 
-/// Reads the words of `count` regions of this source. If each is a block of its own, it takes memory as the words come:
-/// for at most one region more than have come, and for twice as many blocks.
+/// Reads the words of the regions of a body of this size into regions of this source. If each is a block of its own, it
+/// takes memory as the words come: for at most one region more than have come, and for twice as many blocks.
 fn read_regions<R: Intake>(
     source: &RegionSource<'_>,
     incoming: &mut Incoming<'_>,
     reader: &mut R,
-    region_log: u32,
-    count: usize,
+    size: BodySize,
 ) -> Result<Vec<Region>, Fault>
-    requires log { region_log ≤ 20 }
-    requires in_range { IsInRange incoming.old }
-    requires source { HasRegions source.now (2 ^ region_log) count }
-    requires enough { count * 2 ^ region_log ≤ expected incoming.old }
-    ensures in_range { OnOk result (IsInRange incoming.new) }
-    ensures bytes { IfOk result
-        (λ regions. Consumes (known_rest incoming.old (R.left reader.old))
-        (known_rest incoming.new (R.left reader.new)) (numbers (concat regions.items))) }
-    ensures regions { IfOk result (λ regions. All (λ block. length block ≡ 2 ^ region_log) regions.items) }
-    ensures count { IfOk result (λ regions. length regions.items ≡ count) }
-    ensures fit { IfOk result (λ regions. All (λ w. w < 2 ^ 64) (concat regions.items)) }
-    ensures words { IfOk result (λ regions. length (concat regions.items) ≡ count * 2 ^ region_log) }
-    ensures expected { OnOk result
-        (expected incoming.new + count * 2 ^ region_log ≡ expected incoming.old) }
-    ensures truncated { result ≡ Err Fault.TruncatedBody → FallsShort
-        (known_rest incoming.old (R.left reader.old)) (R.left reader.new) (expected incoming.old) }
-    ensures fault { IfErr result IsOfBody }
-    ensures lost { (came : List ℕ) × Consumes (R.left reader.old) (R.left reader.new) came }
-    ensures failed { R.has_failed reader.new ≡ (is_io result || R.has_failed reader.old) }
+    requires source { HasRegionsFor source.now size }
+    requires due { IsDue incoming.old (size.regions * 2 ^ size.region_log) }
+    ensures words { IfOk result
+        (λ regions. Reads R.left incoming.old incoming.new reader.old reader.new (concat regions.items)) }
+    ensures regions { IfOk result (λ regions. AreRegions (2 ^ size.region_log) size.regions regions.items) }
+    ensures device { Draws IsOfBody R.left R.has_failed incoming.old reader.old reader.new result }
 {
-    let mut regions = source.list(count)?;
-    if count == 0 {
+    let mut regions = source.list(size.regions)?;
+    if size.regions == 0 {
         return Ok(regions);
     }
-    let mut words = vec![in source.alloc; 0u64; 1 << region_log]?;
-    for r in 0..count {
+    let mut words = vec![in source.alloc; 0u64; 1 << size.region_log]?;
+    for r in 0..size.regions {
         let words = words.as_mut_slice();
-        regions.push(read_region(source, incoming, reader, r, words)?)?;
+        incoming.read(reader, words)?;
+        regions.push(source.region(r, words)?)?;
     }
     Ok(regions)
-}
-
-/// Reads the words of the region with this number into `words`, and copies them into the region.
-fn read_region<R: Intake>(
-    source: &RegionSource<'_>,
-    incoming: &mut Incoming<'_>,
-    reader: &mut R,
-    index: usize,
-    words: &mut [u64],
-) -> Result<Region, Fault>
-    requires some { 1 ≤ length words.old }
-    requires few { length words.old ≤ 1048576 }
-    requires in_range { IsInRange incoming.old }
-    requires source { HasRegions source.now (length words.old) (index + 1) }
-    requires enough { length words.old ≤ expected incoming.old }
-    ensures in_range { OnOk result (IsInRange incoming.new) }
-    ensures bytes { IfOk result
-        (λ region. Consumes (known_rest incoming.old (R.left reader.old))
-        (known_rest incoming.new (R.left reader.new)) (numbers region)) }
-    ensures whole { IfOk result (λ region. length region ≡ length words.old) }
-    ensures same_length { length words.new ≡ length words.old }
-    ensures fit { IfOk result (λ region. All (λ w. w < 2 ^ 64) region) }
-    ensures expected { OnOk result
-        (expected incoming.new + length words.old ≡ expected incoming.old) }
-    ensures truncated { result ≡ Err Fault.TruncatedBody → FallsShort
-        (known_rest incoming.old (R.left reader.old)) (R.left reader.new) (expected incoming.old) }
-    ensures fault { IfErr result IsOfBody }
-    ensures lost { (came : List ℕ) × Consumes (R.left reader.old) (R.left reader.new) came }
-    ensures failed { R.has_failed reader.new ≡ (is_io result || R.has_failed reader.old) }
-{
-    incoming.read(reader, words)?;
-    source.region(index, words)
 }

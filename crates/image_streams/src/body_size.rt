@@ -1,6 +1,6 @@
 //! The size of the body of an image.
-ghost use Rattle.std.specs.Prelude.{◌≡◌, ◌<◌, ◌≤◌, ◌^◌};
-ghost use Rattle.image_streams.specs.Body.{body_words};
+ghost use Rattle.std.specs.Prelude.{◌≡◌};
+ghost use Rattle.image_streams.specs.Body.{HasFewWords, body_words};
 
 /// The size of the body of an image, or of a part of it.
 #[derive(Debug, Clone, Copy, PartialEq, Eq)]
@@ -15,8 +15,7 @@ pub struct BodySize {
 impl BodySize {
     /// The size in words of 8 bytes.
     pub(crate) fn words(self) -> usize
-        requires log { self.region_log ≤ 20 }
-        requires fits { body_words self < 2 ^ 64 }
+        requires { HasFewWords self }
         ensures { result ≡ body_words self }
     {
         (self.regions << self.region_log) + self.numbers

@@ -1,5 +1,5 @@
 //! Reads the bytes of a store in order.
-ghost use Rattle.std.specs.Prelude.{◌≡◌, false};
+ghost use Rattle.image_streams.specs.Cursor.{StartsAt};
 
 use crate::{Failed, Intake, Store};
 
@@ -13,9 +13,7 @@ pub(crate) struct Cursor<'a, S: Store> {
 
 impl<'a, S: Store> Cursor<'a, S> {
     pub(crate) fn new(store: &'a S, at: u64) -> Cursor<'a, S>
-        ensures store { result.store.now ≡ store.now }
-        ensures at { result.at ≡ at }
-        ensures failed { result.failed ≡ false }
+        ensures { StartsAt store.now at result }
     {
         Cursor {
             store,

@@ -60,8 +60,7 @@ pub trait Intake {
 /// Fills the buffer as far as the device has bytes, and returns how many arrived.
 pub fn fill<R: Intake>(reader: &mut R, buffer: &mut [u8]) -> Result<usize, Failed>
     ensures within { IfOk result (λ n. n ≤ length buffer.new) }
-    ensures bytes { IfOk result
-        (λ n. Consumes (R.left reader.old) (R.left reader.new) (take n buffer.new)) }
+    ensures bytes { IfOk result (λ n. Consumes (R.left reader.old) (R.left reader.new) (take n buffer.new)) }
     ensures lost { (came : List ℕ) × Consumes (R.left reader.old) (R.left reader.new) came }
     ensures end { IfOk result (λ n. n < length buffer.new → IsAtEnd (R.left reader.new)) }
     ensures failed { R.has_failed reader.new ≡ (is_err result || R.has_failed reader.old) }

@@ -1,6 +1,7 @@
 //! Devices that take bytes.
 ghost use Rattle.std.specs.Prelude.{◌≡◌, ◌<◌, ◌≤◌, ◌||◌, ℕ, List, Bool, Option, length, take, replicate, IsTrue, IfOk, OnOk, IsErr, is_err, false};
 ghost use Rattle.std.specs.Io.KnownBytes.{Appends, WriteAppends};
+ghost use Rattle.image_streams.specs.Sending.{GivesZeros};
 
 use crate::Failed;
 use std::io::Write;
@@ -29,8 +30,7 @@ pub trait Outlet {
     /// Lets the device skip `_count` zeros, as a file does by a hole. A device that can't do that takes nothing and
     /// returns false, which is the default.
     fn leave_out_zeros(&mut self, _count: usize) -> bool
-        ensures zeros { IsTrue result
-            → Appends (took self.old) (took self.new) (replicate _count 0) }
+        ensures zeros { IsTrue result → Appends (took self.old) (took self.new) (replicate _count 0) }
         ensures none { result ≡ false → took self.new ≡ took self.old }
         ensures failed { has_failed self.new ≡ has_failed self.old }
     {
@@ -45,11 +45,7 @@ static ZEROS: [u8; ROOM] = [0; ROOM];
 
 /// Gives the device `count` zeros, or lets it skip them. After [`Failed`] it has taken some of them.
 pub(crate) fn give_zeros<W: Outlet>(writer: &mut W, count: usize) -> Result<(), Failed>
-    ensures zeros { OnOk result
-        (Appends (W.took writer.old) (W.took writer.new) (replicate count 0)) }
-    ensures beginning { (n : ℕ)
-        × Appends (W.took writer.old) (W.took writer.new) (take n (replicate count 0)) }
-    ensures failed { W.has_failed writer.new ≡ (is_err result || W.has_failed writer.old) }
+    ensures { GivesZeros W.took W.has_failed writer.old writer.new count result }
 {
     if writer.leave_out_zeros(count) {
         return Ok(());
@@ -59,11 +55,7 @@ pub(crate) fn give_zeros<W: Outlet>(writer: &mut W, count: usize) -> Result<(), 
 
 /// Gives the device `count` zeros. After [`Failed`] it has taken some of them.
 fn give_each_zero<W: Outlet>(writer: &mut W, count: usize) -> Result<(), Failed>
-    ensures zeros { OnOk result
-        (Appends (W.took writer.old) (W.took writer.new) (replicate count 0)) }
-    ensures beginning { (n : ℕ)
-        × Appends (W.took writer.old) (W.took writer.new) (take n (replicate count 0)) }
-    ensures failed { W.has_failed writer.new ≡ (is_err result || W.has_failed writer.old) }
+    ensures { GivesZeros W.took W.has_failed writer.old writer.new count result }
 {
     let mut given = 0;
     while given < count {
@@ -75,8 +67,7 @@ fn give_each_zero<W: Outlet>(writer: &mut W, count: usize) -> Result<(), Failed>
 /// Gives the device all of the bytes. After [`Failed`] it has taken a prefix of them.
 pub fn give_all<W: Outlet>(writer: &mut W, bytes: &[u8]) -> Result<(), Failed>
     ensures bytes { OnOk result (Appends (W.took writer.old) (W.took writer.new) bytes.now) }
-    ensures beginning { (n : ℕ)
-        × Appends (W.took writer.old) (W.took writer.new) (take n bytes.now) }
+    ensures beginning { (n : ℕ) × Appends (W.took writer.old) (W.took writer.new) (take n bytes.now) }
     ensures failed { W.has_failed writer.new ≡ (is_err result || W.has_failed writer.old) }
     ensures stays_failed { IsTrue (W.has_failed writer.old) → 0 < length bytes.now → IsErr result }
 {

@@ -1,6 +1,6 @@
 //! Where the regions of a body come from.
 ghost use Rattle.std.specs.Prelude.{◌≡◌, ◌+◌, ◌<◌, ◌≤◌, ◌^◌, [], None, length, IfOk, IfErr, IfSome};
-ghost use Rattle.image_streams.specs.Body.{body_words};
+ghost use Rattle.image_streams.specs.Body.{HasFewWords};
 ghost use Rattle.image_streams.specs.RegionSource.{HasRegions, IsPoolOf};
 
 use crate::{BodySize, Fault};
@@ -76,8 +76,7 @@ impl<'a> RegionSource<'a> {
 /// Allocates the regions of a body of this size at once, if it has any. The only error is that memory runs out.
 #[tactic(auto, using(crate::proofs::Lemmas::Counts::region_few))]
 pub(crate) fn pool_for(alloc: Global, size: BodySize) -> Result<Option<RegionPool>, AllocError>
-    requires log { size.region_log ≤ 20 }
-    requires fits { body_words size < 2 ^ 64 }
+    requires { HasFewWords size }
     ensures { IfOk result (λ pool. IfSome pool (IsPoolOf size)) }
 {
     if size.regions == 0 {

@@ -1,8 +1,8 @@
 //! Reads the body of an image from a store in several threads.
-ghost use Rattle.std.specs.Prelude.{◌≡◌, ◌++◌, ◌<◌, ◌≤◌, ◌^◌, [], IfSome};
+ghost use Rattle.std.specs.Prelude.{◌≡◌, ◌<◌, ◌≤◌, ◌^◌, [], IfSome};
 ghost use Rattle.image_streams.specs.Body.{body_words};
-ghost use Rattle.image_streams.specs.Extents.{IsBodyOf, AreTwoParts, IsExtent, extent_end};
-ghost use Rattle.image_streams.specs.RegionSource.{HasRegions, HasRest};
+ghost use Rattle.image_streams.specs.Extents.{IsBodyOf, AreJoined, AreTwoParts, IsExtent, extent_end};
+ghost use Rattle.image_streams.specs.RegionSource.{HasPlace, HasRest};
 
 use crate::cursor::Cursor;
 use crate::numbers::incoming::Incoming;
@@ -95,8 +95,7 @@ fn body_by<S: Store>(
     most: usize,
     threads: &(impl Threads + Sync),
 ) -> Option<Body>
-    requires extent { IsExtent extent }
-    requires source { HasRest source extent.size }
+    requires { HasRest source extent }
     ensures { IfSome result (IsBodyOf (S.bytes store.now) extent) }
 {
     let most = most.min(extent.size.words() / LEAST_WORDS);
@@ -104,7 +103,7 @@ fn body_by<S: Store>(
         return body_in_order(source, store, extent);
     }
     let in_row = move || -> Option<Body>
-        requires { IsExtent extent × (HasRest source extent.size × (most < 2 ^ 64)) }
+        requires { HasRest source extent × (most < 2 ^ 64) }
         ensures { IfSome result (IsBodyOf (S.bytes store.entry.now) extent) }
     { body_in_row(source, store, extent, most, threads) };
     behind_an_empty_thread(threads, in_row)
@@ -119,8 +118,7 @@ fn body_in_row<S: Store>(
     most: usize,
     threads: &(impl Threads + Sync),
 ) -> Option<Body>
-    requires extent { IsExtent extent }
-    requires source { HasRest source extent.size }
+    requires { HasRest source extent }
     ensures { IfSome result (IsBodyOf (S.bytes store.now) extent) }
 {
     if most < 2 {
@@ -130,11 +128,11 @@ fn body_in_row<S: Store>(
     let others = most - 1;
     let rest = source.after(low.size.regions);
     let first = move || -> Option<Body>
-        requires { IsExtent low × HasRegions source (2 ^ low.size.region_log) low.size.regions }
+        requires { HasPlace source low }
         ensures { IfSome result (IsBodyOf (S.bytes store.entry.now) low) }
     { body_in_order(source, store, low) };
     let second = move || -> Option<Body>
-        requires { IsExtent high × (HasRest rest high.size × (others < 2 ^ 64)) }
+        requires { HasRest rest high × (others < 2 ^ 64) }
         ensures { IfSome result (IsBodyOf (S.bytes store.entry.now) high) }
     { body_in_row(rest, store, high, others, threads) };
     let (first, second) = thread::join(threads, first, second);
@@ -143,8 +141,7 @@ fn body_in_row<S: Store>(
 
 /// Reads the body in an extent in this thread. Returns `None` as [`body_at`] does.
 fn body_in_order<S: Store>(source: RegionSource<'_>, store: &S, extent: Extent) -> Option<Body>
-    requires extent { IsExtent extent }
-    requires source { HasRegions source (2 ^ extent.size.region_log) extent.size.regions }
+    requires { HasPlace source extent }
     ensures { IfSome result (IsBodyOf (S.bytes store.now) extent) }
 {
     let Ok(mut buffer) = vec![in source.alloc; 0u8; BUFFER_BYTES] else {
@@ -161,8 +158,7 @@ fn body_in_order<S: Store>(source: RegionSource<'_>, store: &S, extent: Extent) 
 /// Joins two bodies, of which the first has regions only. Returns `None` if memory runs out.
 fn join_bodies(first: Body, second: Body) -> Option<Body>
     requires { first.tail.items ≡ [] }
-    ensures { IfSome result (λ body. (body.regions.items ≡ first.regions.items ++ second.regions.items)
-        × (body.tail.items ≡ second.tail.items)) }
+    ensures { IfSome result (AreJoined first second) }
 {
     let mut regions = first.regions;
     let mut others = second.regions;

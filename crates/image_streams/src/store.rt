@@ -18,8 +18,7 @@ pub trait Store: Sync {
         ensures within { IfOk result (λ n. n ≤ length buffer.new) }
         ensures bytes { IfOk result
             (λ n. Consumes (from_place (bytes self.now) at) (from_place (bytes self.now) (at + n)) (take n buffer.new)) }
-        ensures end { IfOk result
-            (λ n. n ≡ 0 → 0 < length buffer.old → IsAtEnd (from_place (bytes self.now) at)) };
+        ensures end { IfOk result (λ n. n ≡ 0 → 0 < length buffer.old → IsAtEnd (from_place (bytes self.now) at)) };
 }
 
 /// The bytes of a file with offsets, for example a regular one. No contract knows them.

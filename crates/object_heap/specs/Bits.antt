@@ -30,6 +30,12 @@ pub record IsFirstBetween (test : ℕ → Bool) (from to a : ℕ) : Type 0 where
   pub first : IsFirstFrom test from a
   pub below : a < to
 
+-- the lowest bit that is set in a word
+pub record IsLowestBit (word i : ℕ) : Type 0 where
+  pub below : i < 64
+  pub set : bit_at word i ≡ 1
+  pub least : (j : ℕ) → j < i → bit_at word j ≡ 0
+
 -- the set bits are those of the addresses of the list, which are below words
 pub record MarkBegins (live : List ℕ) (words : ℕ) (bits : List ℕ) : Type 0 where
   pub room : length bits ≡ words / 64 + 1

@@ -2,7 +2,7 @@
 ghost use Rattle.std.specs.Prelude.{◌≡◌, ℕ, ◌+◌, ◌-◌, ◌*◌, ◌/◌, ◌%◌, ◌^◌, ◌<◌, ◌≤◌, ◌==◌, ◌||◌, ◌&&◌, nat_le, nat_lt, ◌++◌, length, replicate, take, drop, All, slice_index, slice_set, count_by, count_ones, position, not, IfOk, IsTrue, MatchOption};
 ghost use Rattle.std.specs.Int.{bit_at};
 ghost use Rattle.std.specs.List.{range_with_len, list_any};
-ghost use Rattle.object_heap.specs.Bits.{has, room, NoneFrom, IsFirstFrom, NoneBetween, IsFirstBetween};
+ghost use Rattle.object_heap.specs.Bits.{has, room, IsLowestBit, NoneFrom, IsFirstFrom, NoneBetween, IsFirstBetween};
 
 use std::alloc::{AllocError, Global};
 use std::marker::Model;
@@ -86,7 +86,7 @@ impl Bits {
         ensures room { length self.new ≡ length self.old }
         ensures bits { (k : ℕ) → has self.new k ≡ (has self.old k || i == k) }
     {
-        self.insert_mask((i / 64) as usize, 1 << (i % 64));
+        self.words[(i / 64) as usize] |= 1 << (i % 64);
     }
 
     /// Inserts these addresses.
@@ -98,16 +98,6 @@ impl Bits {
         for &address in addresses {
             self.insert(address);
         }
-    }
-
-    /// Sets the bits of a mask in the word with index `i`.
-    #[inline]
-    fn insert_mask(&mut self, i: usize, mask: u64)
-        requires { i < length self.old }
-        ensures room { length self.new ≡ length self.old }
-        ensures bits { (k : ℕ) → has self.new k ≡ (has self.old k || (k / 64 == i && bit_at mask (k % 64) == 1)) }
-    {
-        self.words[i] |= mask;
     }
 
     /// The word with index `i`.
@@ -257,9 +247,7 @@ fn first_not_full(words: &[u64]) -> Option<usize>
 #[inline]
 fn lowest(word: u64) -> u64
     requires { 0 < word }
-    ensures below { result < 64 }
-    ensures set { bit_at word result ≡ 1 }
-    ensures least { (j : ℕ) → j < result → bit_at word j ≡ 0 }
+    ensures { IsLowestBit word result }
 {
     u64::from(word.trailing_zeros())
 }

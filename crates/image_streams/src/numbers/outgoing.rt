@@ -1,5 +1,5 @@
 //! A buffer for the numbers of a body while they are written.
-ghost use Rattle.std.specs.Prelude.{◌≡◌, ◌<◌, ◌≤◌, ◌+◌, ◌*◌, ◌++◌, ◌||◌, [], length, take, OnOk, OnErr, is_err};
+ghost use Rattle.std.specs.Prelude.{◌≡◌, ◌≤◌, ◌*◌, ◌++◌, ◌||◌, [], length, OnOk, OnErr, is_err};
 ghost use Rattle.std.specs.Io.KnownBytes.{Appends};
 ghost use Rattle.image_streams.specs.Numbers.{numbers};
 
@@ -17,7 +17,7 @@ pub struct Outgoing<'a> {
 }
 
 impl<'a> Outgoing<'a> {
-    ghost use Rattle.image_streams.specs.Outgoing.{HasRoom, unsent_bytes, Sends, TakesBeginning};
+    ghost use Rattle.image_streams.specs.Outgoing.{HasRoom, HasRoomForMore, Buffers, unsent_bytes, Sends, TakesBeginning};
 
     /// An empty buffer in `bytes`.
     pub fn new(bytes: &'a mut [u8]) -> Outgoing<'a>
@@ -33,11 +33,9 @@ impl<'a> Outgoing<'a> {
         requires { HasRoom self.old }
         ensures room { OnOk result (HasRoom self.new) }
         ensures bytes { OnOk result
-            (Sends (W.took writer.old) (W.took writer.new) (unsent_bytes self.old)
-            (unsent_bytes self.new) (numbers words.now)) }
+            (Sends (W.took writer.old) (W.took writer.new) (unsent_bytes self.old) (unsent_bytes self.new) (numbers words.now)) }
         ensures beginning { OnErr result
-            (TakesBeginning (W.took writer.old) (W.took writer.new)
-            (unsent_bytes self.old ++ numbers words.now)) }
+            (TakesBeginning (W.took writer.old) (W.took writer.new) (unsent_bytes self.old ++ numbers words.now)) }
         ensures failed { W.has_failed writer.new ≡ (is_err result || W.has_failed writer.old) }
     {
         let mut done = 0;
@@ -54,11 +52,9 @@ impl<'a> Outgoing<'a> {
         requires { HasRoom self.old }
         ensures room { OnOk result (HasRoom self.new) }
         ensures bytes { OnOk result
-            (Sends (W.took writer.old) (W.took writer.new) (unsent_bytes self.old)
-            (unsent_bytes self.new) (numbers region.now)) }
+            (Sends (W.took writer.old) (W.took writer.new) (unsent_bytes self.old) (unsent_bytes self.new) (numbers region.now)) }
         ensures beginning { OnErr result
-            (TakesBeginning (W.took writer.old) (W.took writer.new)
-            (unsent_bytes self.old ++ numbers region.now)) }
+            (TakesBeginning (W.took writer.old) (W.took writer.new) (unsent_bytes self.old ++ numbers region.now)) }
         ensures failed { W.has_failed writer.new ≡ (is_err result || W.has_failed writer.old) }
     {
         if !region.is_cleared() {
@@ -71,13 +67,10 @@ impl<'a> Outgoing<'a> {
     /// Flushes if the buffer is full.
     fn make_room<W: Outlet>(&mut self, writer: &mut W) -> Result<(), Failed>
         requires { HasRoom self.old }
-        ensures room { OnOk result (HasRoom self.new) }
-        ensures some { OnOk result (8 * self.new.end + 8 ≤ length self.new.bytes.now) }
+        ensures room { OnOk result (HasRoomForMore self.new) }
         ensures bytes { OnOk result
-            (Sends (W.took writer.old) (W.took writer.new) (unsent_bytes self.old)
-            (unsent_bytes self.new) []) }
-        ensures beginning { OnErr result
-            (TakesBeginning (W.took writer.old) (W.took writer.new) (unsent_bytes self.old)) }
+            (Sends (W.took writer.old) (W.took writer.new) (unsent_bytes self.old) (unsent_bytes self.new) []) }
+        ensures beginning { OnErr result (TakesBeginning (W.took writer.old) (W.took writer.new) (unsent_bytes self.old)) }
         ensures failed { W.has_failed writer.new ≡ (is_err result || W.has_failed writer.old) }
     {
         if self.end < self.bytes.len() / 8 {
@@ -91,10 +84,8 @@ impl<'a> Outgoing<'a> {
         requires { HasRoom self.old }
         ensures room { OnOk result (HasRoom self.new) }
         ensures empty { OnOk result (self.new.end ≡ 0) }
-        ensures bytes { OnOk result
-            (Appends (W.took writer.old) (W.took writer.new) (unsent_bytes self.old)) }
-        ensures beginning { OnErr result
-            (TakesBeginning (W.took writer.old) (W.took writer.new) (unsent_bytes self.old)) }
+        ensures bytes { OnOk result (Appends (W.took writer.old) (W.took writer.new) (unsent_bytes self.old)) }
+        ensures beginning { OnErr result (TakesBeginning (W.took writer.old) (W.took writer.new) (unsent_bytes self.old)) }
         ensures failed { W.has_failed writer.new ≡ (is_err result || W.has_failed writer.old) }
     {
         let held = 8 * self.end;
@@ -106,12 +97,7 @@ impl<'a> Outgoing<'a> {
     /// Buffers as many of the numbers as there is room for, and returns how many.
     fn buffer(&mut self, words: &[u64]) -> usize
         requires { HasRoom self.old }
-        ensures room { HasRoom self.new }
-        ensures within { result ≤ length words.now }
-        ensures some { 8 * self.old.end + 8 ≤ length self.old.bytes.now → 0 < length words.now → 0 < result }
-        ensures bytes { unsent_bytes self.new
-            ≡ unsent_bytes self.old ++ numbers (take result words.now) }
-        ensures end { self.new.end ≡ self.old.end + result }
+        ensures { Buffers self.old self.new words.now result }
     {
         let n = (self.bytes.len() / 8 - self.end).min(words.len());
         let to = 8 * self.end;

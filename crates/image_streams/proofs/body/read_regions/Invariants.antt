@@ -10,10 +10,10 @@ abbrev pub invariant-loop-r : goal.invariant-loop-r
 invariant-loop-r g l = record {
   in_range : IsInRange l.incoming;
   count : length l.regions.items ≡ l.r;
-  words : l.words.len ≡ 2 ^ l.region_log;
-  whole : All (λ block. length block ≡ 2 ^ l.region_log) l.regions.items;
+  words : l.words.len ≡ 2 ^ l.fn.size.region_log;
+  whole : All (λ block. length block ≡ 2 ^ l.fn.size.region_log) l.regions.items;
   fit : All (λ w. w < 2 ^ 64) (concat l.regions.items);
-  expected : expected l.incoming + l.r * 2 ^ l.region_log ≡ expected l.initial.incoming;
+  expected : expected l.incoming + l.r * 2 ^ l.fn.size.region_log ≡ expected l.initial.incoming;
   bytes : Consumes (known_rest l.initial.incoming (g.R.Intake.left l.initial.reader)) (known_rest l.incoming (g.R.Intake.left l.reader)) (numbers (concat l.regions.items));
   lost : (came : List ℕ) × Consumes (g.R.Intake.left l.initial.reader) (g.R.Intake.left l.reader) came;
   failed : g.R.Intake.has_failed l.reader ≡ g.R.Intake.has_failed l.initial.reader;

@@ -1,4 +1,4 @@
-use Rattle.std.proofs.Common.{◌≡◌, ℕ, ◌-◌, ◌≤◌, ◌++◌, [], length, take, replicate, false, sym, ◌∙◌, ap, subst, arith}
+use Rattle.std.proofs.Common.{rules, ◌≡◌, ℕ, ◌-◌, ◌≤◌, ◌++◌, [], length, take, replicate, false, sym, ◌∙◌, ap, subst, arith}
 use Rattle.std.proofs.lemmas.List.{append-nil, length-replicate, take-replicate, replicate-append-replicate}
 use Rattle.std.specs.Io.KnownBytes.{Appends}
 use Rattle.image_streams.proofs.Lemmas.Known.{appends_kept, appends_more, refuted}
@@ -13,14 +13,18 @@ short n m most within =
 zeros : (n m : ℕ) → m ≤ 65536 → n ≤ m → take n (take m (replicate {A = ℕ} 65536 0)) ≡ replicate n 0
 zeros n m most within = ap (take n) (take-replicate m 65536 0 most) ∙ take-replicate n m 0 within
 
-pub returns-in_err-given-clause-beginning : goal.returns-in_err-given-clause-beginning
-returns-in_err-given-clause-beginning g c =
+pub returns-in_err-given : goal.returns-in_err-given
+returns-in_err-given g c =
     let given = c.loop-given.given in
     let within = c.loop-given.invariant.within in
     let so_far = c.loop-given.invariant.zeros in
     let kept = appends_kept (g.W.Outlet.took c.loop-given.writer) (g.W.Outlet.took c.give.new.self) c.in_err-given.ensures.bytes in
     let all = appends_more (g.W.Outlet.took c.args.writer.now) (g.W.Outlet.took c.loop-given.writer) (g.W.Outlet.took c.give.new.self) (replicate given 0) [] so_far kept in
-    (given, subst (λ bytes. Appends (g.W.Outlet.took c.args.writer.now) (g.W.Outlet.took c.give.new.self) bytes) (append-nil (replicate given 0) ∙ sym (take-replicate given c.args.count 0 within)) all)
+    record {
+      zeros = search rules;
+      beginning = (given, subst (λ bytes. Appends (g.W.Outlet.took c.args.writer.now) (g.W.Outlet.took c.give.new.self) bytes) (append-nil (replicate given 0) ∙ sym (take-replicate given c.args.count 0 within)) all);
+      failed = search rules;
+    }
 
 pub loop-given-preserved : goal.loop-given-preserved
 loop-given-preserved g c =
@@ -42,12 +46,16 @@ loop-given-preserved g c =
       fresh = λ _. start;
     }
 
-pub returns-clause-zeros : goal.returns-clause-zeros
-returns-clause-zeros g c =
-    let all : c.loop-given.given ≡ c.args.count = let last = c.loop-given-test.false in let within = c.loop-given.invariant.within in omega arith in
-    subst (λ n. Appends (g.W.Outlet.took c.args.writer.now) (g.W.Outlet.took c.loop-given.writer) (replicate n 0)) all c.loop-given.invariant.zeros
-
-pub returns-clause-beginning : goal.returns-clause-beginning
-returns-clause-beginning g c =
-    let within = c.loop-given.invariant.within in
-    (c.loop-given.given, subst (λ zeros. Appends (g.W.Outlet.took c.args.writer.now) (g.W.Outlet.took c.loop-given.writer) zeros) (sym (take-replicate c.loop-given.given c.args.count 0 within)) c.loop-given.invariant.zeros)
+pub returns : goal.returns
+returns g c =
+    let so_far = c.loop-given.invariant in
+    let within = so_far.within in
+    let last = c.loop-given-test.false in
+    let all : c.loop-given.given ≡ c.args.count = omega arith in
+    let start = g.W.Outlet.took c.args.writer.now in
+    let end = g.W.Outlet.took c.loop-given.writer in
+    record {
+      zeros = subst (λ n. Appends start end (replicate n 0)) all so_far.zeros;
+      beginning = (c.loop-given.given, subst (λ bytes. Appends start end bytes) (sym (take-replicate c.loop-given.given c.args.count 0 within)) so_far.zeros);
+      failed = so_far.failed;
+    }

@@ -15,4 +15,4 @@ returns g t c =
     let second = c.in_ok-second.field-0 in
     let a : IsBodyOf known low first = subst (λ r. IfSome r (IsBodyOf known low)) c.in_ok-first.was c.join-first.ensures.first in
     let b : IsBodyOf known high second = subst (λ r. IfSome r (IsBodyOf known high)) c.in_ok-second.was c.join-first.ensures.second in
-    IfSome_then c.join_bodies.result c.join_bodies.ensures (λ whole e. joined known extent low high first second whole c.split.ensures a b e.0 e.1)
+    IfSome_then c.join_bodies.result c.join_bodies.ensures (λ whole e. joined known extent low high first second whole c.split.ensures a b e.regions e.tail)
