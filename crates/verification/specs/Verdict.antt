@@ -2,7 +2,6 @@
 use Rattle.std.specs.Prelude.{◌≡◌, ℕ, length, slice_index}
 use Rattle.std.specs.Option.{is_some}
 use Rattle.object_heap.specs.HeapImage.{HeapImage, heap_words, word_at, roots_of}
-use Rattle.summary.specs.LiveObjects.{object_count, object_at}
 use Rattle.verification.specs.Difference.{AreAlike, IsLeastDifference}
 use Rattle.verification.specs.declared.verdict.Verdict.{Verdict}
 use Rattle.verification.specs.declared.verdict.Verdict.TheVariants.{Same, Shape, Word, Live, Root}
@@ -19,7 +18,7 @@ pub record HaveSameShape (wanted found : HeapImage) : Type 0 where
   pub region_log : found.region_log ≡ wanted.region_log
   pub words : heap_words found ≡ heap_words wanted
   pub allowance : found.allowance ≡ wanted.allowance
-  pub live : object_count found ≡ object_count wanted
+  pub live : length found.live ≡ length wanted.live
   pub version : found.version ≡ wanted.version
   pub rooted : is_some found.roots ≡ is_some wanted.roots
   pub roots : root_count found ≡ root_count wanted
@@ -29,7 +28,7 @@ abbrev pub IsVerdict : HeapImage → HeapImage → Verdict → Type 0
 IsVerdict wanted found Same = found ≡ wanted
 IsVerdict wanted found Shape = ¬ (HaveSameShape wanted found)
 IsVerdict wanted found (Word a) = HaveSameShape wanted found × IsLeastDifference (word_at wanted) (word_at found) (heap_words wanted) a
-IsVerdict wanted found (Live i) = HaveSameShape wanted found × (found.words ≡ wanted.words) × IsLeastDifference (object_at wanted) (object_at found) (object_count wanted) i
+IsVerdict wanted found (Live i) = HaveSameShape wanted found × (found.words ≡ wanted.words) × IsLeastDifference (slice_index wanted.live) (slice_index found.live) (length wanted.live) i
 IsVerdict wanted found (Root i) = HaveSameShape wanted found × (found.words ≡ wanted.words) × (found.live ≡ wanted.live) × IsLeastDifference (root_at wanted) (root_at found) (root_count wanted) i
 
 -- the same, where the words at this address and above count as equal
@@ -37,7 +36,7 @@ abbrev pub IsVerdictBelow : ℕ → HeapImage → HeapImage → Verdict → Type
 IsVerdictBelow limit wanted found Same = HaveSameShape wanted found × AreAlike (word_at wanted) (word_at found) limit × (found.live ≡ wanted.live) × (found.roots ≡ wanted.roots)
 IsVerdictBelow limit wanted found Shape = ¬ (HaveSameShape wanted found)
 IsVerdictBelow limit wanted found (Word a) = HaveSameShape wanted found × IsLeastDifference (word_at wanted) (word_at found) limit a
-IsVerdictBelow limit wanted found (Live i) = HaveSameShape wanted found × AreAlike (word_at wanted) (word_at found) limit × IsLeastDifference (object_at wanted) (object_at found) (object_count wanted) i
+IsVerdictBelow limit wanted found (Live i) = HaveSameShape wanted found × AreAlike (word_at wanted) (word_at found) limit × IsLeastDifference (slice_index wanted.live) (slice_index found.live) (length wanted.live) i
 IsVerdictBelow limit wanted found (Root i) = HaveSameShape wanted found × AreAlike (word_at wanted) (word_at found) limit × (found.live ≡ wanted.live) × IsLeastDifference (root_at wanted) (root_at found) (root_count wanted) i
 
 -- the first difference in the live lists, else in the roots
@@ -45,5 +44,5 @@ abbrev pub IsVerdictOnLists : HeapImage → HeapImage → Verdict → Type 0
 IsVerdictOnLists wanted found Same = (found.live ≡ wanted.live) × (found.roots ≡ wanted.roots)
 IsVerdictOnLists wanted found Shape = ⊥
 IsVerdictOnLists wanted found (Word a) = ⊥
-IsVerdictOnLists wanted found (Live i) = IsLeastDifference (object_at wanted) (object_at found) (object_count wanted) i
+IsVerdictOnLists wanted found (Live i) = IsLeastDifference (slice_index wanted.live) (slice_index found.live) (length wanted.live) i
 IsVerdictOnLists wanted found (Root i) = (found.live ≡ wanted.live) × IsLeastDifference (root_at wanted) (root_at found) (root_count wanted) i

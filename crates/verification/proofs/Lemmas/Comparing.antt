@@ -1,17 +1,17 @@
 -- Words of a heap compared one by one with those of the compaction of another.
-use Rattle.std.proofs.Common.{◌≡◌, ℕ, zero, suc, ◌+◌, ◌-◌, ◌≤◌, ◌<◌, ◌≢◌, List, ◌∷◌, length, get_or, refl, sym, ◌∙◌, ap, subst, arith}
+use Rattle.std.proofs.Common.{◌≡◌, ℕ, zero, suc, ◌+◌, ◌-◌, ◌≤◌, ◌<◌, ◌≢◌, List, ◌∷◌, refl, sym, ◌∙◌, ap, subst, arith}
 use Rattle.std.specs.Prelude.{slice_range, replicate, Contains}
 use Rattle.std.proofs.lemmas.List.Elements.{All-contains}
 use Rattle.object_heap.specs.Header.{filler_header}
 use Rattle.object_heap.specs.HeapImage.{HeapImage, IsValid, HasSoundHeader, heap_words, word_at, size_at, references_at}
-use Rattle.summary.specs.LiveObjects.{object_count, object_at}
-use Rattle.summary.specs.NewAddresses.{new_address, new_top}
+use Rattle.summary.specs.LiveObjects.{object_count}
+use Rattle.summary.specs.NewAddresses.{new_top}
 use Rattle.summary.specs.Compaction.{compacted_word, compact}
-use Rattle.verification.specs.Compared.{IsGap, IsPlaced, AreKnown, behind}
+use Rattle.verification.specs.Compared.{IsPlaced, AreKnown, behind}
 use Rattle.verification.specs.Tally.{IsTally}
 use Rattle.verification.specs.declared.difference_tally.OtherWord.{OtherWord}
 use Rattle.verification.proofs.Lemmas.Gaps.{behind-zero, behind-suc}
-use Rattle.verification.proofs.Lemmas.Placing.{place_end, is_placed, is_gap, behind_place, filler_zeros, data_words, compact_word}
+use Rattle.verification.proofs.Lemmas.Placing.{place_end, filler_zeros, data_words, compact_word}
 
 pub tally_to : {wanted found : ℕ → ℕ} {count : ℕ} {first : List OtherWord} (p q : ℕ) → p ≡ q → IsTally wanted found p count first → IsTally wanted found q count first
 tally_to {wanted} {found} {count} {first} p q e tally = subst (λ n. IsTally wanted found n count first) e tally

@@ -1,8 +1,8 @@
 -- A gap, cut into fillers.
-use Rattle.std.proofs.Common.{◌≡◌, ℕ, ◌+◌, ◌-◌, ◌*◌, ◌/◌, ◌%◌, ◌≤◌, ◌<◌, min, true, sym, ap, subst, arith}
+use Rattle.std.proofs.Common.{◌≡◌, ℕ, ◌+◌, ◌-◌, ◌*◌, ◌/◌, ◌%◌, ◌≤◌, ◌<◌, min, true, sym, subst, arith}
 use Rattle.object_heap.specs.HeapImage.{HeapImage, is_live_word}
 use Rattle.summary.specs.NewAddresses.{prefix_end}
-use Rattle.summary.specs.Fillers.{IsDeadRun, filler_limit}
+use Rattle.summary.specs.Fillers.{IsDeadRun}
 use Rattle.verification.specs.Compared.{IsGap}
 
 -- the part of a gap that begins at its start or at a multiple of 2 ^ 31 is a filler

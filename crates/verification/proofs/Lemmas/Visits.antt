@@ -1,6 +1,6 @@
 -- The live objects of an image, visited in order: where each goes, and the gap before it.
-use Rattle.std.proofs.Common.{◌≡◌, ℕ, ◌+◌, ◌<◌, ◌≤◌, List, length, get_or, sym, ◌∙◌, ap, subst}
-use Rattle.object_heap.specs.HeapImage.{HeapImage, heap_words}
+use Rattle.std.proofs.Common.{◌≡◌, ℕ, ◌<◌, ◌≤◌, List, length, get_or, sym, subst}
+use Rattle.object_heap.specs.HeapImage.{HeapImage}
 use Rattle.summary.specs.LiveObjects.{object_count, object_at}
 use Rattle.summary.specs.NewAddresses.{new_address}
 use Rattle.verification.specs.Compared.{IsGap, IsPlaced, AreKnown, behind}

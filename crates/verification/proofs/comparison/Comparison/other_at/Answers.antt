@@ -1,5 +1,5 @@
-use Rattle.std.proofs.Common.{◌≡◌, ℕ, ◌+◌, ◌<◌, ◌≤◌, List, length, get_or, refl, sym, ◌∙◌, ap, subst, arith}
-use Rattle.object_heap.specs.HeapImage.{HeapImage, heap_words, size_at}
+use Rattle.std.proofs.Common.{◌≡◌, ℕ, ◌+◌, ◌<◌, ◌≤◌, List, length, get_or, refl, sym, ◌∙◌, subst, arith}
+use Rattle.object_heap.specs.HeapImage.{HeapImage, size_at}
 use Rattle.verification.specs.Compared.{AreCompacted, IsFirstOther, behind, new_ends}
 use Rattle.verification.proofs.Lemmas.Gaps.{behind-next}
 use Rattle.verification.proofs.Lemmas.Joined.{none, joined, later, match_map}

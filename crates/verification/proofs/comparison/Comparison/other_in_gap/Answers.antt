@@ -1,5 +1,4 @@
-use Rattle.std.proofs.Common.{ℕ, ◌<◌, refl, arith}
-use Rattle.object_heap.specs.HeapImage.{HeapImage}
+use Rattle.std.proofs.Common.{◌<◌, refl, arith}
 use Rattle.verification.proofs.Lemmas.Joined.{none, joined, later}
 use Rattle.verification.proofs.Lemmas.Strides.{next_cut, piece}
 use Rattle.verification.proofs.comparison.Comparison.other_in_gap.Goals as goal

@@ -1,4 +1,4 @@
-use Rattle.std.proofs.Common.{◌≡◌, ℕ, ◌<◌, ◌≤◌, refl, subst, arith}
+use Rattle.std.proofs.Common.{◌≡◌, ◌<◌, refl, subst, arith}
 use Rattle.verification.specs.Explanation.{IsTallyOf}
 use Rattle.verification.proofs.Lemmas.Strides.{next_cut, piece}
 use Rattle.verification.proofs.comparison_explained.WordComparison.compare_gap.Goals as goal
