@@ -47,7 +47,8 @@ text_of read = listed_text read.front.version (numbers_of read)
 abbrev pub objects_of : Unchecked → HeapImage
 objects_of read = image_of read.front.region_log 0 read.regions.items read.found.live.items
 
--- the live objects and the roots are those of the numbers, and only faults of the objects are left
+-- The version allows the numbers, and the regions are whole. The live objects and the roots are those of the numbers, and only
+-- faults of the objects are left.
 pub record IsFound (read : Unchecked) : Type 0 where
   pub fits : HasFittingNumbers read.front.version (numbers_of read)
   pub regions : AreBlocks read.front.region_log read.regions.items
