@@ -1,5 +1,5 @@
 -- A heap whose live objects were found from roots, as an image of any version.
-use Rattle.std.proofs.Common.{◌≡◌, ◌<◌, ◌≤◌, ◌^◌, List, ℕ, Some, false, refl, sym, subst, arith, All, length}
+use Rattle.std.proofs.Common.{◌≡◌, ◌<◌, ◌≤◌, ◌^◌, List, ℕ, Some, false, refl, sym, subst, All, length}
 use Rattle.std.proofs.lemmas.Bool.{true≢false}
 use Rattle.std.specs.List.{concat}
 use Rattle.object_heap.specs.HeapImage.{IsValid, IsWithinLimits, image_of, versioned_image_of}
