@@ -18,14 +18,6 @@ one-more p log e =
     let appended : count_by p (log ++ e ∷ []) ≡ count_by p log + (0 + cond {A = ℕ} (p e) 1 0) = sum_by-append (λ x. cond (p x) 1 0) log (e ∷ []) in
     omega arith
 
-and-true : (b : Bool) → cond {A = ℕ} (b && true) 1 0 ≡ cond {A = ℕ} b 1 0
-and-true true = refl
-and-true false = refl
-
-and-false : (b : Bool) → cond {A = ℕ} (b && false) 1 0 ≡ cond {A = ℕ} b 0 0
-and-false true = refl
-and-false false = refl
-
 zeros : (b : Bool) → 0 ≡ cond {A = ℕ} b 0 0
 zeros true = refl
 zeros false = refl
@@ -45,10 +37,10 @@ adds-entry region t e old new is claims completions = record {
 }
 
 pub adds-granted : (region w : ℕ) (old new : List Entry) → new ≡ old ++ entry w (Claim region) Yes ∷ [] → Adds region (tally 1 0) old new
-adds-granted region w old new is = adds-entry region (tally 1 0) (entry w (Claim region) Yes) old new is (λ r. and-true (r == region)) (λ r. zeros (r == region))
+adds-granted region w old new is = adds-entry region (tally 1 0) (entry w (Claim region) Yes) old new is (λ r. refl) (λ r. zeros (r == region))
 
 pub adds-refused : (region w : ℕ) (old new : List Entry) → new ≡ old ++ entry w (Claim region) No ∷ [] → Adds region none old new
-adds-refused region w old new is = adds-entry region none (entry w (Claim region) No) old new is (λ r. and-false (r == region)) (λ r. zeros (r == region))
+adds-refused region w old new is = adds-entry region none (entry w (Claim region) No) old new is (λ r. zeros (r == region)) (λ r. zeros (r == region))
 
 pub adds-drain : (region w d s : ℕ) (reply : Reply) (old new : List Entry) → new ≡ old ++ entry w (Drain d s) reply ∷ [] → Adds region none old new
 adds-drain region w d s reply old new is = adds-entry region none (entry w (Drain d s) reply) old new is (λ r. zeros (r == region)) (λ r. zeros (r == region))

@@ -1,7 +1,6 @@
 -- A granted region has no pending readers.
-use Rattle.std.proofs.Common.{◌≡◌, ℕ, Bool, true, false, List, [], ◌∷◌, ◌++◌, refl, sym, ap, ◌∙◌, eq-eqb, append_assoc}
+use Rattle.std.proofs.Common.{◌≡◌, ℕ, false, List, [], ◌∷◌, ◌++◌, refl, sym, ap, ◌∙◌, eq-eqb, append_assoc}
 use Rattle.std.proofs.lemmas.List.{append-nil}
-use Rattle.std.specs.Prelude.{◌&&◌}
 use Rattle.scheduler.specs.declared.event.Event.TheVariants.{Claim}
 use Rattle.scheduler.specs.declared.reply.Reply.TheVariants.{Yes}
 use Rattle.scheduler.specs.declared.entry.Entry.{Entry}
@@ -24,7 +23,7 @@ read_later law m n w r before later log legal is d =
     ap (λ (l : List Entry). is_pending m (state_of l) d r) at
     ∙ (law m n log legal).stays_read before later [] e r d
     (at ∙ ap (λ (l : List Entry). before ++ e ∷ l) (sym (append-nil later)))
-    (ap (λ (b : Bool). b && true) (eq-eqb r r refl))
+    (eq-eqb r r refl)
 
 pub granted : Orderly → (m : MoveTable) (n w r : ℕ) (seen mine seen' mine' : List Entry) → Extends m n w seen mine (Claim r) Yes seen' mine' → IsGranted m n r seen'
 granted law m n w r seen mine seen' mine' x =
