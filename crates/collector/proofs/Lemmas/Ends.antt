@@ -1,5 +1,5 @@
 -- How a worker of a session may end.
-use Rattle.std.proofs.Common.{◌≡◌, true, false, Result, Ok, Err, IfErr, IfSome, refl, sym, ap, ◌∙◌}
+use Rattle.std.proofs.Common.{◌≡◌, true, Result, Ok, Err, IfErr, IfSome, refl, ap}
 use Rattle.std.proofs.lemmas.Bool.{false≢true}
 use Rattle.image_streams.specs.declared.fault.Fault.{Fault}
 use Rattle.image_streams.specs.declared.fault.Fault.TheVariants.{TruncatedHeader, Magic, RegionLog, Length, TruncatedBody, LiveOrder, Header, Overlap, Reference, Trailing, Memory, Workers, Io, Schedule, Overwritten, Gate, Root}

@@ -1,4 +1,4 @@
-use Rattle.std.proofs.Common.{◌≡◌, sym, ap, ◌∙◌}
+use Rattle.std.proofs.Common.{sym, ap, ◌∙◌}
 use Rattle.claim_board.specs.Boards.{identity}
 use Rattle.collector.proofs.session.dealing.shares_of.Goals as goal
 
