@@ -65,9 +65,13 @@ fn a_list_of_a_million_objects_is_reached(rt: HostRuntime) -> Result<(), Fail> {
     let words = list_words(rt.alloc())?;
     let text = rooted_text(rt.alloc(), regions_of(16), &words, &[1])?;
     let image = decode(rt.alloc(), &text)?;
-    let links = (0..LINKS).map(|link| 2 * link);
-    holds(&rt, image.live().iter().copied().eq(links));
+    holds(&rt, are_links(image.live()));
     Ok(())
+}
+
+/// Whether these are the addresses of all pairs of the list.
+fn are_links(live: &[u64]) -> bool {
+    live.iter().copied().eq((0..LINKS).map(|link| 2 * link))
 }
 
 /// The number of words of a small heap.
