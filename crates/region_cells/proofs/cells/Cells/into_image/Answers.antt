@@ -1,11 +1,11 @@
 use Rattle.std.proofs.Common.{◌≡◌, length, ap, sym, subst, ◌∙◌, arith}
-use Rattle.std.specs.Prelude.{option_map}
 use Rattle.object_heap.specs.HeapImage.{IsValid, AreBlocks}
 use Rattle.region_cells.specs.Blocks.{blocks_of}
 use Rattle.region_cells.specs.Cells.{image_in}
 use Rattle.region_cells.proofs.Lemmas.Blocks.{originals_again}
 use Rattle.region_cells.proofs.Lemmas.Places.{length-places, length-others}
-use Rattle.region_cells.proofs.Lemmas.Whole.{are_blocks, whole_again}
+use Rattle.region_cells.proofs.Lemmas.Whole.{are_blocks}
+use Rattle.region_cells.proofs.Lemmas.Images.{image_again}
 use Rattle.region_cells.proofs.cells.Cells.into_image.Goals as goal
 
 pub put_back-requires-clause-few : goal.put_back-requires-clause-few
@@ -38,8 +38,7 @@ into_image-requires-clause-valid c =
     let few = c.regions_to_fill.ensures.few image cells.valid in
     let blocks : c.put_back.new.regions.items ≡ blocks_of image =
     originals_again image few c.self.inside.slots.items parts.regions.items c.put_back.new.regions.items cells.slots_are others.regions c.in-Ok.ensures.regions in
-    let same = whole_again image cells.valid parts.version parts.region_log parts.allowance c.put_back.new.regions.items parts.live.items (option_map (λ v. v.items) parts.roots)
-    others.version others.region_log others.allowance blocks others.live others.roots in
+    let same = image_again image cells.valid parts c.put_back.new.regions.items others blocks in
     subst IsValid (sym same) cells.valid
 
 pub returns-in-Ok : goal.returns-in-Ok
@@ -51,6 +50,5 @@ returns-in-Ok c =
     let few = c.regions_to_fill.ensures.few image cells.valid in
     let blocks : c.put_back.new.regions.items ≡ blocks_of image =
     originals_again image few c.self.inside.slots.items parts.regions.items c.put_back.new.regions.items cells.slots_are others.regions c.in-Ok.ensures.regions in
-    let same = whole_again image cells.valid parts.version parts.region_log parts.allowance c.put_back.new.regions.items parts.live.items (option_map (λ v. v.items) parts.roots)
-    others.version others.region_log others.allowance blocks others.live others.roots in
+    let same = image_again image cells.valid parts c.put_back.new.regions.items others blocks in
     c.into_image.ensures ∙ same ∙ c.self.view_is

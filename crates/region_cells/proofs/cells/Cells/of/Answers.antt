@@ -1,11 +1,12 @@
 use Rattle.std.proofs.Common.{◌≤◌, length, ap, sym, subst, ◌∙◌, arith}
 use Rattle.std.proofs.lemmas.List.FromFn.{length-map-range_with_len}
+use Rattle.std.specs.Vec.{vec_capacity}
 use Rattle.object_heap.specs.HeapImage.{IsValid, region_count, block_of}
 use Rattle.summary.specs.RegionData.{fill_count}
 use Rattle.region_cells.specs.Blocks.{blocks_of}
 use Rattle.region_cells.specs.Cells.{places, other_blocks, AreOtherParts}
 use Rattle.heap_image.specs.declared.image.ImageParts.{ImageParts}
-use Rattle.region_cells.proofs.Lemmas.Images.{image_in-cells}
+use Rattle.region_cells.proofs.Lemmas.Images.{image_in-cells, other_parts}
 use Rattle.region_cells.proofs.cells.Cells.of.Goals as goal
 
 pub put_all-requires-clause-valid : goal.put_all-requires-clause-valid
@@ -33,15 +34,9 @@ invariant_of-result c =
     let parts : ImageParts =
     record { version = made.version; region_log = made.region_log; allowance = made.allowance; regions = c.put_all.new.regions; live = made.live; roots = made.roots } in
     let slots_are = c.put_all.ensures.slots ∙ ap places first in
-    let others : AreOtherParts image parts = record {
-      version = ap (λ i. i.version) (sym whole);
-      region_log = ap (λ i. i.region_log) (sym whole);
-      allowance = ap (λ i. i.allowance) (sym whole);
-      live = ap (λ i. i.live) (sym whole);
-      roots = ap (λ i. i.roots) (sym whole);
-      regions = c.put_all.ensures.others ∙ ap other_blocks first;
-      room = omega (arith, c.put_all.ensures.capacity, made.regions.ok, ap length c.into_parts-parts.ensures.blocks, length-map-range_with_len (block_of image) 0 (region_count image));
-    } in
+    let room : region_count image ≤ vec_capacity parts.regions =
+    omega (arith, c.put_all.ensures.capacity, made.regions.ok, ap length c.into_parts-parts.ensures.blocks, length-map-range_with_len (block_of image) 0 (region_count image)) in
+    let others : AreOtherParts image parts = other_parts image parts made.regions.items whole (c.put_all.ensures.others ∙ ap other_blocks first) room in
     let image_is = image_in-cells image valid c.put_all.new.slots.items parts slots_are others in
     rw image_is (record { valid = valid; slots_are = slots_are; parts_are = others })
 
@@ -55,14 +50,7 @@ returns-clause-cells c =
     let parts : ImageParts =
     record { version = made.version; region_log = made.region_log; allowance = made.allowance; regions = c.put_all.new.regions; live = made.live; roots = made.roots } in
     let slots_are = c.put_all.ensures.slots ∙ ap places first in
-    let others : AreOtherParts image parts = record {
-      version = ap (λ i. i.version) (sym whole);
-      region_log = ap (λ i. i.region_log) (sym whole);
-      allowance = ap (λ i. i.allowance) (sym whole);
-      live = ap (λ i. i.live) (sym whole);
-      roots = ap (λ i. i.roots) (sym whole);
-      regions = c.put_all.ensures.others ∙ ap other_blocks first;
-      room = omega (arith, c.put_all.ensures.capacity, made.regions.ok, ap length c.into_parts-parts.ensures.blocks, length-map-range_with_len (block_of image) 0 (region_count image));
-    } in
-    let image_is = image_in-cells image valid c.put_all.new.slots.items parts slots_are others in
-    image_is
+    let room : region_count image ≤ vec_capacity parts.regions =
+    omega (arith, c.put_all.ensures.capacity, made.regions.ok, ap length c.into_parts-parts.ensures.blocks, length-map-range_with_len (block_of image) 0 (region_count image)) in
+    let others : AreOtherParts image parts = other_parts image parts made.regions.items whole (c.put_all.ensures.others ∙ ap other_blocks first) room in
+    image_in-cells image valid c.put_all.new.slots.items parts slots_are others
