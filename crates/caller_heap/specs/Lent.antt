@@ -31,16 +31,16 @@ abbrev pub IsGone : Lent → Type 0
 IsGone w = w.0 ≡ false
 
 -- whether words are held, and what they are
-abbrev pub told : Lent → Bool × List ℕ
-told w = (w.0, w.3)
+abbrev pub content : Lent → Bool × List ℕ
+content w = (w.0, w.3)
 
--- what is told of words that are held
+-- what is content of words that are held
 abbrev pub held : List ℕ → Bool × List ℕ
 held block = (true, block)
 
 -- Each is held as before, with the same words. At which place, no clause says.
 abbrev pub AreBack : List Lent → List Lent → Type 0
-AreBack before after = map told after ≡ map told before
+AreBack before after = map content after ≡ map content before
 
 -- it is held, with as many words as a region of a size that there may be
 abbrev pub IsRegion : ℕ → Lent → Type 0
@@ -55,7 +55,7 @@ blocks_of image = map (block_of image) (range_with_len 0 (region_count image))
 
 -- each region of the image is held in its place
 abbrev pub HoldImage : HeapImage → List Lent → Type 0
-HoldImage image words = map told words ≡ map held (blocks_of image)
+HoldImage image words = map content words ≡ map held (blocks_of image)
 
 -- what keeps words from being collected where they lie: what keeps others, or that they aren't a region each
 abbrev pub IsWhyLentKept : ℕ → List Lent → List ℕ → Fault → Type 0

@@ -4,7 +4,7 @@ ghost use Rattle.std.specs.Vec.{vec_capacity};
 ghost use Rattle.object_heap.specs.HeapImage.{AreBlocks};
 ghost use Rattle.image_streams.specs.declared.fault.Fault.TheVariants.{Memory, Length};
 ghost use Rattle.fill.specs.FillFaults.{IsOverwritten};
-ghost use Rattle.caller_heap.specs.Lent.{IsHeld, IsGone, AreRegions, AreBack, told, held, words_in};
+ghost use Rattle.caller_heap.specs.Lent.{IsHeld, IsGone, AreRegions, AreBack, content, held, words_in};
 
 use heap_image::Fault;
 use raw_region::{HostWords, Region};
@@ -82,8 +82,8 @@ fn region_size(region_log: u32) -> usize
 pub(crate) fn keep_all(words: &mut [HostWords], mut regions: Vec<Region>) -> Result<(), Fault>
     requires few { vec_len regions ≤ length words.old }
     requires gone { All IsGone (take (vec_len regions) words.old) }
-    ensures kept { OnOk result (map told words.new
-        ≡ map held regions.items ++ map told (drop (vec_len regions) words.old)) }
+    ensures kept { OnOk result (map content words.new
+        ≡ map held regions.items ++ map content (drop (vec_len regions) words.old)) }
     ensures fault { IfErr result IsOverwritten }
 {
     while let Some(region) = regions.pop() {

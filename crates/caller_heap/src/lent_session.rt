@@ -9,7 +9,7 @@ ghost use Rattle.fill.specs.FillFaults.{IsOverwritten};
 ghost use Rattle.collector.specs.Collections.{figures_of};
 ghost use Rattle.collector.specs.Sessions.{image_of};
 ghost use Rattle.caller_heap.specs.HeapWords.{heap_bytes};
-ghost use Rattle.caller_heap.specs.Lent.{AreBack, AreRegions, HoldImage, IfKept, IfLost, IsGone, IsHeld, blocks_of, heap_in, held, image_in, told, words_in};
+ghost use Rattle.caller_heap.specs.Lent.{AreBack, AreRegions, HoldImage, IfKept, IfLost, IsGone, IsHeld, blocks_of, heap_in, held, image_in, content, words_in};
 
 use crate::collection::put_tail;
 use crate::lending::{keep_all, lend_all};
@@ -73,7 +73,7 @@ pub(crate) fn begin_parts(
     ensures image { IfOk result (λ shares. All (λ share. image_of share.value ≡ image_in parts) shares.items) }
     ensures count { IfOk result (λ shares. vec_len shares ≡ workers) }
     ensures gone { OnOk result (All IsGone words.new) }
-    ensures back { IfErr result (λ fault. (map told words.new ≡ map held parts.regions.items) ⊎ IsOverwritten fault) }
+    ensures back { IfErr result (λ fault. (map content words.new ≡ map held parts.regions.items) ⊎ IsOverwritten fault) }
     ensures fault { IfErr result (λ fault. (fault ≡ Workers) ⊎ ((fault ≡ Memory)
         ⊎ ((first_fault (listed_text parts.version (numbers_in parts)) ≡ Some fault) ⊎ IsOverwritten fault))) }
 {

@@ -5,4 +5,4 @@ use Rattle.claim_board.specs.declared.finished.Finished.{Finished}
 
 -- the whole history
 abbrev pub history : Finished → List Entry
-history f = f.last.value.me.0.told
+history f = f.last.value.me.0.note

@@ -37,13 +37,13 @@ abbrev pub kept : Key → Table ℕ View → Type 0
 kept k table = Kept k.moves k.workers table.words table.views
 
 abbrev pub all_workers : Key → View
-all_workers k = record { told = []; holds = fresh 0 k.workers }
+all_workers k = record { note = []; holds = fresh 0 k.workers }
 
 abbrev pub others_of : View → View
-others_of v = record { told = v.told; holds = rest_of v.holds }
+others_of v = record { note = v.note; holds = rest_of v.holds }
 
 abbrev pub first_of : View → View
-first_of v = record { told = v.told; holds = head_of v.holds }
+first_of v = record { note = v.note; holds = head_of v.holds }
 
 -- There is a legal history that begins with all that was seen and has exactly this worker's own calls. The call was
 -- added to that history.
@@ -85,24 +85,24 @@ look_reply found = cond (found == 12) Filled (cond (found == 8) Claimed (cond (n
 
 -- a seat of no worker
 abbrev pub nobody : View
-nobody = record { told = []; holds = [] }
+nobody = record { note = []; holds = [] }
 
 -- what the seat has seen, to pass to another
 abbrev pub note_of : View → View
-note_of v = record { told = seen_of v; holds = [] }
+note_of v = record { note = seen_of v; holds = [] }
 
 -- the seat after another has passed a history to it
 abbrev pub informed : View → View → View
-informed v w = record { told = w.told; holds = v.holds }
+informed v w = record { note = w.note; holds = v.holds }
 
 -- the seat with the workers of the other
 abbrev pub gathered : View → View → View
-gathered v w = record { told = v.told; holds = v.holds ++ w.holds }
+gathered v w = record { note = v.note; holds = v.holds ++ w.holds }
 
 -- The pass has seen all of a legal history, which begins with what it had seen and with what was passed to it.
-pub record Sees (m : MoveTable) (workers worker : ℕ) (told seen mine seen' mine' : List Entry) : Type 0 where
+pub record Sees (m : MoveTable) (workers worker : ℕ) (note seen mine seen' mine' : List Entry) : Type 0 where
   pub begins : BeginsWith seen' seen
-  pub heard : BeginsWith seen' told
+  pub heard : BeginsWith seen' note
   pub legal : IsLegal m workers seen'
   pub mine_is : mine' ≡ mine
   pub seen_calls : calls_by worker seen' ≡ mine
@@ -110,16 +110,16 @@ pub record Sees (m : MoveTable) (workers worker : ℕ) (told seen mine seen' min
 abbrev pub sees : MoveTable → ℕ → Step ℕ → Me ℕ View → ℕ → Me ℕ View → Type 0
 sees m workers s v found after =
     IsPassView after.0 × (worker_of after.0 ≡ worker_of v.0) × (after.1 ≡ v.1)
-    × Sees m workers (worker_of v.0) v.0.told (seen_of v.0) (mine_of v.0) (seen_of after.0) (mine_of after.0)
+    × Sees m workers (worker_of v.0) v.0.note (seen_of v.0) (mine_of v.0) (seen_of after.0) (mine_of after.0)
     × (steps_of after.0 ≡ steps_of v.0 ++ touch_of s ∷ [])
 
 -- the pass has seen what was passed to it
-abbrev pub takes_told : Step ℕ → Me ℕ View → ℕ → Me ℕ View → Type 0
-takes_told s v found after =
-    IsPassView after.0 × (worker_of after.0 ≡ worker_of v.0) × (after.1 ≡ v.1) × (seen_of after.0 ≡ v.0.told) × (mine_of after.0 ≡ mine_of v.0) × (calls_by (worker_of v.0) v.0.told ≡ mine_of v.0)
+abbrev pub takes_note : Step ℕ → Me ℕ View → ℕ → Me ℕ View → Type 0
+takes_note s v found after =
+    IsPassView after.0 × (worker_of after.0 ≡ worker_of v.0) × (after.1 ≡ v.1) × (seen_of after.0 ≡ v.0.note) × (mine_of after.0 ≡ mine_of v.0) × (calls_by (worker_of v.0) v.0.note ≡ mine_of v.0)
     × (steps_of after.0 ≡ steps_of v.0 ++ touch_of s ∷ [])
 
 -- The seat has seen all of a legal history, which has all its workers' calls. The value found is the number of regions
 -- that aren't settled.
 abbrev pub surveys : MoveTable → ℕ → Step ℕ → Me ℕ View → ℕ → Me ℕ View → Type 0
-surveys m workers s v found after = IsLegal m workers after.0.told × AllFit workers after.0.told v.0.holds × (found ≡ unsettled m (state_of after.0.told))
+surveys m workers s v found after = IsLegal m workers after.0.note × AllFit workers after.0.note v.0.holds × (found ≡ unsettled m (state_of after.0.note))

@@ -52,7 +52,7 @@ fn deal(
     mut place: Place,
     workers: u32,
 ) -> Result<Vec<Pass>, AllocError>
-    requires place { (place.table_id ≡ words.now.table_id) × (0 < words.now.table_id.words) × (0 < workers) × (place.me ≡ (record { told = []; holds = fresh 0 workers }, [])) }
+    requires place { (place.table_id ≡ words.now.table_id) × (0 < words.now.table_id.words) × (0 < workers) × (place.me ≡ (record { note = []; holds = fresh 0 workers }, [])) }
     ensures { IfOk result (λ v. (vec_len v ≡ workers) × ArePasses words.now.table_id v.items) }
 {
     let mut passes = Vec::with_capacity(alloc, workers as usize)?;

@@ -2,9 +2,9 @@
 ghost use Rattle.std.specs.Prelude.{◌≡◌, suc};
 ghost use Rattle.scheduler.specs.MoveTable.{region_count};
 ghost use Rattle.scheduler.specs.History.{IsLegal, BeginsWith, calls_by};
-ghost use Rattle.claim_board.specs.Rule.{sees, takes_told};
+ghost use Rattle.claim_board.specs.Rule.{sees, takes_note};
 ghost use Rattle.claim_board.specs.Views.{seen_of};
-ghost use Rattle.claim_board.specs.Told.{IsToldView};
+ghost use Rattle.claim_board.specs.Notes.{HasNote};
 ghost use Rattle.claim_board.specs.Boards.{moves, worker_count, identity, board_of, worker, seen, mine, Stays};
 ghost use Rattle.atomic_table.specs.Table.{step};
 ghost use mathlib.Core.Option.{none};
@@ -20,7 +20,7 @@ fn see<E: About>(words: &Words, seat: &mut Place)
     requires seat { seat.old.table_id ≡ words.now.table_id }
     requires size { words.now.table_id.words ≡ suc (region_count words.now.key.moves) }
     requires about { (E.moves ≡ words.now.key.moves) × (E.workers ≡ words.now.key.workers) }
-    requires told { IsToldView seat.old.me.0 }
+    requires note { HasNote seat.old.me.0 }
     ensures { (seat.new.table_id ≡ seat.old.table_id) × sees E.moves E.workers (step words.now.table_id.slots 0 0 0 none) seat.old.me 0 seat.new.me }
 {
     words.load::<Sees<E>>(seat, 0);
@@ -30,9 +30,9 @@ fn see<E: About>(words: &Words, seat: &mut Place)
 fn adopt_history(words: &Words, seat: &mut Place)
     requires seat { seat.old.table_id ≡ words.now.table_id }
     requires size { words.now.table_id.words ≡ suc (region_count words.now.key.moves) }
-    requires told { IsToldView seat.old.me.0 }
-    requires longer { BeginsWith seat.old.me.0.told (seen_of seat.old.me.0) }
-    ensures { (seat.new.table_id ≡ seat.old.table_id) × takes_told (step words.now.table_id.slots 0 0 0 none) seat.old.me 0 seat.new.me }
+    requires note { HasNote seat.old.me.0 }
+    requires longer { BeginsWith seat.old.me.0.note (seen_of seat.old.me.0) }
+    ensures { (seat.new.table_id ≡ seat.old.table_id) × takes_note (step words.now.table_id.slots 0 0 0 none) seat.old.me 0 seat.new.me }
 {
     words.load::<Takes>(seat, 0);
 }

@@ -118,9 +118,9 @@ impl<E: About> Play<u8, View> for Sees<E> {
 pub struct Takes;
 
 impl Play<u8, View> for Takes {
-    ghost use Rattle.claim_board.specs.Rule.{takes_told};
+    ghost use Rattle.claim_board.specs.Rule.{takes_note};
 
-    ghost then = { takes_told };
+    ghost then = { takes_note };
 }
 
 /// The seat sees the whole history, with the number of regions that aren't settled.

@@ -83,56 +83,27 @@ where
 {
     let may_have_holes = out.may_have_holes;
     let written = OutFile::new(&mut out.file, may_have_holes);
-    let (collected, mut written) = collect_timed(rt, run, image, written, lines_of(schedule));
-    let Collected { outcome, times } = collected;
-    let outcome = written.end(outcome);
-    Collected { outcome, times }
-}
-
-/// The outlet for the lines of the schedule, if they are written.
-fn lines_of<'s, 'a, F: OpenFile + Write + Seek + Drop>(
-    schedule: &'s mut Option<Output<'a, F>>,
-) -> Option<ToWrite<&'s mut Watched<'a, F>>> {
-    match schedule {
-        Some(schedule) => Some(ToWrite::new(&mut schedule.file)),
-        None => None,
-    }
-}
-
-/// Collects an image to these devices, and notes when each phase ends. Returns the first device, too.
-fn collect_timed<R: AllocGlobal + Threads + Wait + Clock + Sync, I, O, L>(
-    rt: &R,
-    run: Run,
-    image: &mut TimedIntake<'_, R, I>,
-    written: O,
-    lines: Option<L>,
-) -> (Collected, O)
-where
-    I: Intake + Drop,
-    O: Outlet + Drop,
-    L: Outlet + Drop,
-    ensures { IfOk result.0.outcome (λ done. IsFigures (string_bytes done.line)) }
-{
     let mut output = TimedOutlet::new(rt, run.watch, written);
     let gate = TimedGate::new(rt, run.watch);
     let workers = Workers {
         count: run.workers,
         gate: &gate,
     };
-    match lines {
+    let (outcome, times) = match schedule {
         None => {
             let outcome = collect_into(rt, image, &mut output, workers);
-            let times = CollectionTimes::of(run, image, &gate, &output);
-            (Collected { outcome, times }, output.into_inner())
+            (outcome, CollectionTimes::of(run, image, &gate, &output))
         }
-        Some(lines) => {
+        Some(schedule) => {
+            let lines = ToWrite::new(&mut schedule.file);
             let mut lines = TimedOutlet::new(rt, run.watch, lines);
             let outcome = record_into(rt, image, &mut output, &mut lines, workers);
             let times = CollectionTimes::of(run, image, &gate, &output);
-            let times = times.with_schedule(lines.ended());
-            (Collected { outcome, times }, output.into_inner())
+            (outcome, times.with_schedule(lines.ended()))
         }
-    }
+    };
+    let outcome = output.into_inner().end(outcome);
+    Collected { outcome, times }
 }
 
 /// Ends the files that a collection wrote, or abandons them.

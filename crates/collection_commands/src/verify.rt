@@ -42,7 +42,7 @@ where
     let verified = verify_images(rt.alloc(), &mut was, &mut is, rt, wishes);
     let stats = ahead.stats(rt, &was, &is);
     match verified {
-        Ok(compared) => told(rt.alloc(), compared, after, stats),
+        Ok(compared) => report(rt.alloc(), compared, after, stats),
         Err(refused) => {
             let (was, is) = (was.into_inner(), is.into_inner());
             Err(trouble(rt, refused, &was.into_inner(), &is.into_inner(), wishes))
@@ -128,7 +128,7 @@ fn trouble<'a, R: AllocGlobal + Threads + Sync, F: FileExt + Sync + Drop>(
 }
 
 /// What the command prints of a comparison, or the difference that was found in this file.
-fn told<'a>(
+fn report<'a>(
     alloc: Global,
     compared: Compared,
     after: FileWord<'a>,

@@ -63,34 +63,17 @@ pub fn collect<G: Gate + Sync, T: Threads + Sync, W: Wait + Sync>(
     ensures lost { IfErr result (λ refusal. IfLost refusal (λ fault. (fault ≡ Fault.Gate) ⊎ IsOverwritten fault)) }
     ensures gate { result ≡ Err (Lost Fault.Gate) → MayRefuse (G.may_refuse gate.now) workers image }
 {
-    let most = workers as usize;
-    let prepared = match Prepared::<Board>::new(alloc, image, workers, &Many { threads, most }) {
+    let hands = Many {
+        threads,
+        most: workers as usize,
+    };
+    let prepared = match Prepared::<Board>::new(alloc, image, workers, &hands) {
         Ok(prepared) => prepared,
         Err((image, fault)) => return Err(Refusal::Kept(image, fault)),
     };
-    match collected(prepared, gate, threads, wait) {
-        Ok(done) => Ok(done),
-        Err(fault) => Err(Refusal::Lost(fault)),
-    }
-}
-
-/// Runs all workers, and finishes the board.
-fn collected<G: Gate + Sync, T: Threads + Sync, W: Wait + Sync>(
-    prepared: Prepared<Board>,
-    gate: &G,
-    threads: &T,
-    wait: &W,
-) -> Result<(Outcome, Finished), Fault>
-    requires seats { All (λ w. board_of w.seat ≡ identity prepared.equipment.desk) prepared.equipment.staff.workers.items }
-    ensures image { IfOk result (λ done. done.0.image ≡ compact prepared.equipment.survey) }
-    ensures figures { IfOk result (λ done. done.0.figures ≡ figures_of prepared.equipment.survey) }
-    ensures legal { IfOk result (λ done. IsLegal (image_table prepared.equipment.survey) (worker_count prepared.equipment.desk) (history done.1)) }
-    ensures once { IfOk result (λ done. HasEachOnce (image_table prepared.equipment.survey) (history done.1)) }
-    ensures fault { IfErr result (λ fault. IsOverwritten fault ⊎ ((fault ≡ Fault.Gate)
-        × MayRefuse (G.may_refuse gate.now) (worker_count prepared.equipment.desk) prepared.equipment.survey)) }
-{
-    let worked = prepared.work(&StartLine::open(), gate, threads, wait)?;
-    finish_collection(worked)
+    let ended = prepared.run(&StartLine::open(), gate, threads, wait)?;
+    let worked = ended.clean_up(&hands)?;
+    Ok(finish_collection(worked)?)
 }
 
 /// The outcome of a collection, and its finished board.

@@ -1,4 +1,5 @@
 ghost use Rattle.std.specs.Prelude.{◌≡◌};
+ghost use Rattle.collector.specs.declared.outcome.Refusal.TheVariants.{Lost};
 
 use heap_image::{Fault, Image};
 use summary::Plan;
@@ -43,6 +44,15 @@ pub enum Refusal {
     Kept(Image, Fault),
     /// Some worker has begun; the image is lost.
     Lost(Fault),
+}
+
+impl From<Fault> for Refusal {
+    ghost from_gives = { λ fault refusal. refusal ≡ Lost fault };
+
+    /// The fault of a worker, or of what follows the workers.
+    fn from(fault: Fault) -> Refusal {
+        Refusal::Lost(fault)
+    }
 }
 
 impl Refusal {

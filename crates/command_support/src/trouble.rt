@@ -28,7 +28,7 @@ use std::io::Write;
 pub struct Trouble {
     /// Decides the exit status and the first line on standard error.
     pub failure: Failure,
-    // Roles, and no names: a lifetime would double the proof of each function that may fail.
+    // Roles, and no names: a lifetime would lengthen the proof of each function that may fail.
     /// The file that it is about.
     file: Option<Role>,
     /// The other file that it is about.

@@ -28,10 +28,10 @@ pub record MayReport {A : Type 0} (result : Result A Fault) (first : Option Faul
   pub fault : IfErr result (IsMemoryOr first)
 
 -- These objects lie in the heap, and the bits mark them. If they are said to be well-formed, they are.
-pub record AreSeen (heap : HeapImage) (live bits : List ℕ) (said : Bool) : Type 0 where
+pub record AreSeen (heap : HeapImage) (live bits : List ℕ) (known : Bool) : Type 0 where
   pub inside : All (λ a. a < heap_words heap) live
   pub begins : MarkBegins live (heap_words heap) bits
-  pub well_formed : IsTrue said → AreWellFormed (with_live heap live)
+  pub well_formed : IsTrue known → AreWellFormed (with_live heap live)
 
 -- the live objects and the roots are those of a text of this version with these numbers after the words, and only faults of
 -- the objects are left

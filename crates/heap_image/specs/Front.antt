@@ -21,7 +21,7 @@ pub record Fits (f : Front) : Type 0 where
   pub allowance : f.allowance < 2 ^ 64
 
 -- the fields are those that these bytes encode, and fit them
-pub record IsToldBy (bytes : List ℕ) (f : Front) : Type 0 where
+pub record IsOfBytes (bytes : List ℕ) (f : Front) : Type 0 where
   pub all : bytes ≡ bytes_of f
   pub version : f.version ≡ encoded_version bytes
   pub region_log : f.region_log ≡ encoded_region_log bytes

@@ -19,7 +19,7 @@ IsCause image workers w line NotAllowed =
     (reply : Reply) → ¬ (IsMachineStep (image_table image) (image_slide image) workers w (entry line.worker line.event reply))
 IsCause image workers w line (OtherReply found) =
     IsMachineStep (image_table image) (image_slide image) workers w (entry line.worker line.event found)
-    × ((told : Reply) × (line.reply ≡ Some told) × (told ≢ found))
+    × ((reply : Reply) × (line.reply ≡ Some reply) × (reply ≢ found))
 
 -- the first line of a schedule's text that the machine refuses, and why it does so after the lines before
 pub record IsExplained (image : HeapImage) (v : ScheduleView) (found : RefusedLine) : Type 0 where

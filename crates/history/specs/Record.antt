@@ -11,6 +11,6 @@ use Rattle.scheduler.specs.declared.entry.Entry.{Entry}
 -- granted, completed and settled once, and each pair is drained once.
 pub record IsRecord (image : HeapImage) (workers : ℕ) (v : ScheduleView) : Type 0 where
   pub log : List Entry
-  pub told : v ≡ schedule_of workers log
+  pub schedule : v ≡ schedule_of workers log
   pub allowed : IsAllowed image workers log
   pub once : HasEachOnce (image_table image) log

@@ -13,7 +13,7 @@ use Rattle.scheduler.specs.declared.schedule.line.Line.{Line}
 pub record IsCallOfLine (line : Line) (e : Entry) : Type 0 where
   pub worker : e.worker ≡ line.worker
   pub event : e.event ≡ line.event
-  pub told : (line.reply ≡ None) ⊎ (line.reply ≡ Some e.reply)
+  pub reply : (line.reply ≡ None) ⊎ (line.reply ≡ Some e.reply)
 
 -- the calls of the lines, one for each
 abbrev pub AreCallsOf : List Line → List Entry → Type 0

@@ -1,8 +1,8 @@
 -- The results of parsing a reply.
 use Rattle.std.specs.Prelude.{◌≡◌, ◌≢◌, ℕ, IsTrue, List, Option, MatchOption}
-use Rattle.scheduler.specs.Schedule.{is_reply_to, is_told_reply}
+use Rattle.scheduler.specs.Schedule.{is_reply_to, is_line_reply}
 use Rattle.scheduler.specs.CallText.{reply_text}
-use Rattle.history.specs.ScheduleText.{told_text}
+use Rattle.history.specs.ScheduleText.{line_reply_text}
 use Rattle.scheduler.specs.declared.event.Event.{Event}
 use Rattle.scheduler.specs.declared.reply.Reply.{Reply}
 
@@ -14,8 +14,8 @@ ReadsReply event word result =
     (λ reply. IsTrue (is_reply_to event reply) × (word ≡ reply_text reply))
 
 -- the same, if the reply may be left open
-abbrev pub ReadsTold : Event → List ℕ → Option (Option Reply) → Type 0
-ReadsTold event word result =
+abbrev pub ReadsLineReply : Event → List ℕ → Option (Option Reply) → Type 0
+ReadsLineReply event word result =
     MatchOption result
-    ((told : Option Reply) → IsTrue (is_told_reply event told) → word ≢ told_text told)
-    (λ told. IsTrue (is_told_reply event told) × (word ≡ told_text told))
+    ((reply : Option Reply) → IsTrue (is_line_reply event reply) → word ≢ line_reply_text reply)
+    (λ reply. IsTrue (is_line_reply event reply) × (word ≡ line_reply_text reply))

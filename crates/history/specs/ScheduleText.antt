@@ -6,13 +6,13 @@ use Rattle.scheduler.specs.declared.reply.Reply.{Reply}
 use Rattle.scheduler.specs.declared.schedule.line.Line.{Line}
 
 -- the reply, or a question mark if it is left open
-abbrev pub told_text : Option Reply → List ℕ
-told_text None = codes "?"
-told_text (Some reply) = reply_text reply
+abbrev pub line_reply_text : Option Reply → List ℕ
+line_reply_text None = codes "?"
+line_reply_text (Some reply) = reply_text reply
 
 -- worker, event and reply, and a newline
 abbrev pub line_text : Line → List ℕ
-line_text line = decimal line.worker ++ (32 ∷ (event_text line.event ++ (32 ∷ (told_text line.reply ++ (10 ∷ [])))))
+line_text line = decimal line.worker ++ (32 ∷ (event_text line.event ++ (32 ∷ (line_reply_text line.reply ++ (10 ∷ [])))))
 
 abbrev pub header_text : ℕ → List ℕ
 header_text workers = codes "schedule 1 " ++ (decimal workers ++ (10 ∷ []))

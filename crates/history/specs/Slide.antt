@@ -22,7 +22,7 @@ pub record Slide : Type 0 where
 pub record IsSlideOf (m : MoveTable) (p : Slide) : Type 0 where
   pub sized : 0 < p.size
   pub down : (a x : ℕ) → a < p.top → p.origin a ≡ Some x → a ≤ x
-  pub told : (a x : ℕ) → a < p.top → p.origin a ≡ Some x → a / p.size ≢ x / p.size → IsTrue (reads m (a / p.size) (x / p.size))
+  pub crossing : (a x : ℕ) → a < p.top → p.origin a ≡ Some x → a / p.size ≢ x / p.size → IsTrue (reads m (a / p.size) (x / p.size))
   pub filled : (a : ℕ) → a < p.top → IsTrue (to_fill m (a / p.size))
 
 -- the word for an address, from the present heap

@@ -120,7 +120,7 @@ impl<'a> Source<'a> {
         ensures value { target.new ≡ record target.old { words = with_words target.old.words at (part (source_words self.now) from n) } }
         ensures length { length target.new.words ≡ region_words target.old.image }
     {
-        target.copy_from(at, self.region(), from, n);
+        target.region.copy_from(at, self.region(), from, n);
     }
 
     /// Closes the source. The result is the evidence that a drain of the pair requires.

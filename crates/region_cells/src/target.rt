@@ -26,7 +26,7 @@ use summary::Plan;
 pub struct Target<'a> {
     hand: Claim<'a, Kept>,
     cells: Snapshot<Cells>,
-    region: Region,
+    pub(crate) region: Region,
     right: Right,
 }
 
@@ -123,16 +123,6 @@ impl<'a> Target<'a> {
         ensures length { length self.new.words ≡ region_words self.old.image }
     {
         plan.redirect(&mut self.region, at, n);
-    }
-
-    /// Copies `n` words, from index `from` of `region` to index `at`.
-    pub(crate) fn copy_from(&mut self, at: usize, region: &Region, from: usize, n: usize)
-        requires room { at + n ≤ region_words self.old.image }
-        requires source { from + n ≤ length region.now }
-        ensures value { self.new ≡ record self.old { words = with_words self.old.words at (part region.now from n) } }
-        ensures length { length self.new.words ≡ region_words self.old.image }
-    {
-        self.region.copy_from(at, region, from, n);
     }
 
     /// Puts the region back with its moved words.

@@ -18,6 +18,6 @@ pub record IsKeptBook (scheduler : SchedulerView) (lines : List Line) : Type 0 w
   pub some : 1 ≤ scheduler.workers
   pub few : scheduler.workers ≤ 64
   pub table : IsMoveTable scheduler.moves
-  pub told : lines ≡ map line_of (entries_of lines)
+  pub replies : lines ≡ map line_of (entries_of lines)
   pub legal : IsLegal scheduler.moves scheduler.workers (entries_of lines)
   pub leads : state_in scheduler ≡ state_of (entries_of lines)

@@ -33,13 +33,13 @@ is_reply_to (Copy d n) Done = true
 is_reply_to _ _ = false
 
 -- a reply that the event may have, or one left open
-abbrev pub is_told_reply : Event → Option Reply → Bool
-is_told_reply event None = true
-is_told_reply event (Some reply) = is_reply_to event reply
+abbrev pub is_line_reply : Event → Option Reply → Bool
+is_line_reply event None = true
+is_line_reply event (Some reply) = is_reply_to event reply
 
 -- a line that a schedule of this number of workers may have
 abbrev pub is_line : ℕ → Line → Bool
-is_line workers line = nat_lt line.worker workers && (is_event line.event && is_told_reply line.event line.reply)
+is_line workers line = nat_lt line.worker workers && (is_event line.event && is_line_reply line.event line.reply)
 
 -- What contracts see of a schedule.
 pub record ScheduleView : Type 0 where

@@ -5,14 +5,14 @@ use Rattle.summary.specs.RegionData.{region_data, source}
 use Rattle.summary.specs.declared.region_data.RegionData.{RegionData}
 
 -- a source, if it is one of the first s regions
-abbrev pub told : Option ℕ → ℕ → Option ℕ
-told None s = None
-told (Some t) s = if nat_lt t s then Some t else None
+abbrev pub if_below : Option ℕ → ℕ → Option ℕ
+if_below None s = None
+if_below (Some t) s = if nat_lt t s then Some t else None
 
 module _ (image : HeapImage) where
   -- the data of a region, with its source if that is one of the first s regions
-  abbrev pub told_region : ℕ → ℕ → RegionData
-  told_region s d = record (region_data image d) { source = told (source image d) s }
+  abbrev pub region_so_far : ℕ → ℕ → RegionData
+  region_so_far s d = record (region_data image d) { source = if_below (source image d) s }
 
 -- a word of region s goes to the start of region d, and to the start of no other
 pub record StartsOnly (image : HeapImage) (s d : ℕ) : Type 0 where

@@ -34,7 +34,12 @@ pub fn for_each_mut<R: Threads + Sync, T: Send, F: Fn(usize, &mut T) + Sync>(
         return;
     }
     let share = s.len().div_ceil(threads);
-    Row { rt, f, share }.start(s);
+    let row = &Row { rt, f, share };
+    let mut parts = ||
+        requires { (0 < row.now.share) × HoldFrom (AcceptsAt F.Fn row.now.f.now) 0 s.now }
+        ensures { BecomeFrom (ChangesAt F.Fn row.entry.now.f.now) 0 s.entry.now s.exit.now }
+    { row.work(0, s) };
+    join_mut(rt, &mut || {}, &mut parts);
 }
 
 /// What the threads share.
@@ -47,21 +52,6 @@ struct Row<'a, R: Threads + Sync, F: Sync> {
 }
 
 impl<R: Threads + Sync, F: Sync> Row<'_, R, F> {
-    /// Calls `f` for each element, beside an empty thread.
-    fn start<T: Send>(&self, s: &mut [T])
-    where
-        F: Fn(usize, &mut T),
-        requires share { 0 < self.now.share }
-        requires accepts { HoldFrom (AcceptsAt F.Fn self.now.f.now) 0 s.old }
-        ensures { BecomeFrom (ChangesAt F.Fn self.now.f.now) 0 s.old s.new }
-    {
-        let mut parts = ||
-            requires { (0 < self.now.share) × HoldFrom (AcceptsAt F.Fn self.now.f.now) 0 s.now }
-            ensures { BecomeFrom (ChangesAt F.Fn self.entry.now.f.now) 0 s.entry.now s.exit.now }
-        { self.work(0, s) };
-        join_mut(self.rt, &mut || {}, &mut parts);
-    }
-
     /// Calls `f` for each element of a part that begins at index `base` of the list.
     #[cycle(parts)]
     fn work<T: Send>(&self, base: usize, s: &mut [T])

@@ -5,25 +5,25 @@ use Rattle.std.proofs.lemmas.Bool.{cases_lt}
 use Rattle.std.proofs.lemmas.List.{map-append, map_more, take-append-drop, take_more_set, get_or-drop, drop-set-lt, drop-drop, drop-set, drop_more}
 use Rattle.std.proofs.lemmas.List.Elements.{All-head, All-tail, All-push}
 use Rattle.std.specs.Prelude.{All, map}
-use Rattle.caller_heap.specs.Lent.{Lent, IsHeld, IsGone, told, held, words_in}
+use Rattle.caller_heap.specs.Lent.{Lent, IsHeld, IsGone, content, held, words_in}
 
--- words that are held are told by what they are
-pub held_told : (words : List Lent) → All IsHeld words → map held (map words_in words) ≡ map told words
+-- words that are held are content by what they are
+pub held_told : (words : List Lent) → All IsHeld words → map held (map words_in words) ≡ map content words
 held_told [] h = refl
 held_told (w ∷ words) h =
-    let here : held (words_in w) ≡ told w = ap (λ b. (b, w.3)) (sym (All-head IsHeld w words h)) in
-    ap (λ t. t ∷ map held (map words_in words)) here ∙ ap (λ ts. told w ∷ ts) (held_told words (All-tail IsHeld w words h))
+    let here : held (words_in w) ≡ content w = ap (λ b. (b, w.3)) (sym (All-head IsHeld w words h)) in
+    ap (λ t. t ∷ map held (map words_in words)) here ∙ ap (λ ts. content w ∷ ts) (held_told words (All-tail IsHeld w words h))
 
 -- with the first ones back, and the others never lent, all are as they were
 pub all_back : (before middle after : List Lent) (regions : List (List ℕ)) (n : ℕ) → regions ≡ map words_in (take n before) → All IsHeld (take n before) → drop n middle ≡ drop n before
-    → map told after ≡ map held regions ++ map told (drop n middle) → map told after ≡ map told before
+    → map content after ≡ map held regions ++ map content (drop n middle) → map content after ≡ map content before
 all_back before middle after regions n are held_all rest kept =
     kept
-    ∙ ap (λ bs. map held bs ++ map told (drop n middle)) are
-    ∙ ap (λ ts. ts ++ map told (drop n middle)) (held_told (take n before) held_all)
-    ∙ ap (λ ws. map told (take n before) ++ map told ws) rest
-    ∙ sym (map-append told (take n before) (drop n before))
-    ∙ ap (map told) (take-append-drop n before)
+    ∙ ap (λ bs. map held bs ++ map content (drop n middle)) are
+    ∙ ap (λ ts. ts ++ map content (drop n middle)) (held_told (take n before) held_all)
+    ∙ ap (λ ws. map content (take n before) ++ map content ws) rest
+    ∙ sym (map-append content (take n before) (drop n before))
+    ∙ ap (map content) (take-append-drop n before)
 
 -- ---- the next place of a list, the rest of which is as it was
 
@@ -47,16 +47,16 @@ lent_more regions before i w inside is so_far =
 
 -- ---- the last region that is still out, and the place before those that are back
 
-pub kept_more : (now : List Lent) (regions : List (List ℕ)) (region : List ℕ) (r : ℕ) (new : Lent) (rest : List (Bool × List ℕ)) → r < length now → r < length regions → get_or regions r region ≡ region → told new ≡ held region
-    → map told (drop (r + 1) now) ≡ map held (drop (r + 1) regions) ++ rest → map told (drop r (set now r new)) ≡ map held (drop r regions) ++ rest
+pub kept_more : (now : List Lent) (regions : List (List ℕ)) (region : List ℕ) (r : ℕ) (new : Lent) (rest : List (Bool × List ℕ)) → r < length now → r < length regions → get_or regions r region ≡ region → content new ≡ held region
+    → map content (drop (r + 1) now) ≡ map held (drop (r + 1) regions) ++ rest → map content (drop r (set now r new)) ≡ map held (drop r regions) ++ rest
 kept_more now regions region r new rest inside below is back so_far =
-    ap (map told) (drop-set now r new inside)
-    ∙ ap (λ t. t ∷ map told (drop (r + 1) now)) back
+    ap (map content) (drop-set now r new inside)
+    ∙ ap (λ t. t ∷ map content (drop (r + 1) now)) back
     ∙ ap (λ ts. held region ∷ ts) so_far
     ∙ ap (λ b. (held b ∷ map held (drop (r + 1) regions)) ++ rest) (sym is)
     ∙ ap (λ bs. map held bs ++ rest) (sym (drop_more regions r region below))
 
-pub same_told : (w : Lent) (block : List ℕ) → w.0 ≡ true → w.3 ≡ block → told w ≡ held block
+pub same_told : (w : Lent) (block : List ℕ) → w.0 ≡ true → w.3 ≡ block → content w ≡ held block
 same_told w block is_held is = ap (λ b. (b, w.3)) is_held ∙ ap held is
 
 -- ---- the sizes of regions

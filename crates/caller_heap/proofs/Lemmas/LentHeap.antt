@@ -19,7 +19,7 @@ use Rattle.caller_heap.specs.declared.lent_collection.Failure.TheVariants.{Kept}
 use Rattle.caller_heap.specs.Collected.{IsWhyKept}
 use Rattle.caller_heap.specs.HeapWords.{heap_bytes}
 use Rattle.fill.specs.FillFaults.{IsOverwritten}
-use Rattle.caller_heap.specs.Lent.{Lent, IfKept, AreRegions, IsHeld, IsWhyLentKept, blocks_of, heap_in, told, held, words_in}
+use Rattle.caller_heap.specs.Lent.{Lent, IfKept, AreRegions, IsHeld, IsWhyLentKept, blocks_of, heap_in, content, held, words_in}
 use Rattle.caller_heap.proofs.Lemmas.Compacted.{compact-words}
 use Rattle.caller_heap.proofs.Lemmas.Lending.{held_told}
 
@@ -56,16 +56,16 @@ module _ (version : Version) (settings : HeapSettings) (words : List Lent) (tail
   why_kept fault (inr first) = inr (inl (ap first_fault bytes_are ∙ first))
 
 -- where all are back, no other is left
-pub all_told : (after middle : List Lent) (regions : List (List ℕ)) (n : ℕ) → length middle ≤ n → map told after ≡ map held regions ++ map told (drop n middle) → map told after ≡ map held regions
+pub all_told : (after middle : List Lent) (regions : List (List ℕ)) (n : ℕ) → length middle ≤ n → map content after ≡ map held regions ++ map content (drop n middle) → map content after ≡ map held regions
 all_told after middle regions n all kept =
-    kept ∙ ap (λ ws. map held regions ++ map told ws) (drop_all n middle all) ∙ append-nil (map held regions)
+    kept ∙ ap (λ ws. map held regions ++ map content ws) (drop_all n middle all) ∙ append-nil (map held regions)
 
 -- what is said of regions that are kept
 pub kept_of : {A : Type 0} (result : Result A Failure) (failure : Failure) (refused : RefusedRegions) (fact : RefusedRegions → Type 0) → result ≡ Err failure → failure ≡ Kept refused → IfErr result (λ f. IfKept f fact) → fact refused
 kept_of result failure refused fact e f h = subst (λ x. IfKept x fact) f (subst (λ r. IfErr r (λ x. IfKept x fact)) e h)
 
 -- words whose blocks are back are as they were
-pub all_held_again : (words after : List Lent) (blocks : List (List ℕ)) → blocks ≡ map words_in words → All IsHeld words → map told after ≡ map held blocks → map told after ≡ map told words
+pub all_held_again : (words after : List Lent) (blocks : List (List ℕ)) → blocks ≡ map words_in words → All IsHeld words → map content after ≡ map held blocks → map content after ≡ map content words
 all_held_again words after blocks b h e = e ∙ ap (map held) b ∙ held_told words h
 
 -- why a collection by several workers isn't begun

@@ -105,4 +105,4 @@ appends m n words views k id w seen mine steps taken at event reply step words' 
         let one : cond {A = ℕ} (w == w) 1 0 ≡ 1 = ap (λ b. cond {A = ℕ} b 1 0) (eq-eqb w w refl) in
         let most = k.once w in
         let small = bit_small (nat_lt w n) in
-        (begins_longer k.log (e ∷ []) u.told f.0, others_fit n w k.log event reply u.holds (omega arith) f.1)
+        (begins_longer k.log (e ∷ []) u.note f.0, others_fit n w k.log event reply u.holds (omega arith) f.1)

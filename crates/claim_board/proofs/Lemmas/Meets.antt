@@ -14,11 +14,11 @@ use Rattle.claim_board.specs.declared.rule.view.View.{View}
 use Rattle.claim_board.specs.Views.{hold, pass_view, times_held, total, HoldFits, AllFit, ViewFits, IsPassView, worker_of, seen_of, mine_of, steps_of}
 use Rattle.claim_board.specs.declared.rule.view.Touch.{Touch}
 use Rattle.claim_board.specs.Steps.{touch_of}
-use Rattle.claim_board.specs.Rule.{kept, Kept, nobody, note_of, informed, gathered, sees, takes_told, surveys}
-use Rattle.claim_board.specs.Told.{IsToldView}
+use Rattle.claim_board.specs.Rule.{kept, Kept, nobody, note_of, informed, gathered, sees, takes_note, surveys}
+use Rattle.claim_board.specs.Notes.{HasNote}
 use Rattle.claim_board.proofs.Lemmas.Totals.{total_set, total_same, total_snoc}
 
-begins_seen : (n : ℕ) (log : List Entry) (hs : List Hold) → AllFit n log hs → BeginsWith log (seen_of (record { told = []; holds = hs }))
+begins_seen : (n : ℕ) (log : List Entry) (hs : List Hold) → AllFit n log hs → BeginsWith log (seen_of (record { note = []; holds = hs }))
 begins_seen n log [] fits = (log, refl)
 begins_seen n log (h ∷ hs) fits = fits.0.begins
 
@@ -108,10 +108,10 @@ reviewed k s h id i v new inside at fits times long = subst (λ ws. Kept k.moves
 })
 
 -- a pass to which a history was passed
-pub told_view : (v w : View) → IsPassView v → IsToldView (informed v w)
-told_view v w is = λ i. record { told = w.told; holds = ap (λ (u : View). u.holds) is i }
+pub told_view : (v w : View) → IsPassView v → HasNote (informed v w)
+told_view v w is = λ i. record { note = w.note; holds = ap (λ (u : View). u.holds) is i }
 
-pub sees_all : (k : Key) (slots id i : ℕ) (me : Me ℕ View) (s0 : Step ℕ) → i < suc (region_count k.moves) → IsToldView me.0
+pub sees_all : (k : Key) (slots id i : ℕ) (me : Me ℕ View) (s0 : Step ℕ) → i < suc (region_count k.moves) → HasNote me.0
     → Allows (kept k) slots id me i (λ n. n) (sees k.moves k.workers s0 me)
 sees_all k slots id i me s0 inside is s h homes at small = (
   pass_view w h.log mine taken,
@@ -131,7 +131,7 @@ sees_all k slots id i me s0 inside is s h homes at small = (
     taken = steps_of me.0 ++ touch_of s0 ∷ []
 
     old : View
-    old = record { told = me.0.told; holds = hold w (seen_of me.0) mine (steps_of me.0) ∷ [] }
+    old = record { note = me.0.note; holds = hold w (seen_of me.0) mine (steps_of me.0) ∷ [] }
 
     here : get_elem? s.views id ≡ some old
     here = at ∙ ap some is
@@ -140,23 +140,23 @@ sees_all k slots id i me s0 inside is s h homes at small = (
     had = (h.each_view id old here).1.0
 
 -- between two beginnings with the same calls
-between : (w : ℕ) (seen told log mine : List Entry) → BeginsWith told seen → BeginsWith log told → calls_by w seen ≡ mine → calls_by w log ≡ mine → calls_by w told ≡ mine
-between w seen told log mine a b low high =
-    let x : calls_by w told ≡ mine ++ calls_by w a.0 = ap (calls_by w) a.1 ∙ (calls-append w seen a.0 ∙ ap (λ l. l ++ calls_by w a.0) low) in
-    let y : mine ≡ calls_by w told ++ calls_by w b.0 = sym high ∙ (ap (calls_by w) b.1 ∙ calls-append w told b.0) in
+between : (w : ℕ) (seen note log mine : List Entry) → BeginsWith note seen → BeginsWith log note → calls_by w seen ≡ mine → calls_by w log ≡ mine → calls_by w note ≡ mine
+between w seen note log mine a b low high =
+    let x : calls_by w note ≡ mine ++ calls_by w a.0 = ap (calls_by w) a.1 ∙ (calls-append w seen a.0 ∙ ap (λ l. l ++ calls_by w a.0) low) in
+    let y : mine ≡ calls_by w note ++ calls_by w b.0 = sym high ∙ (ap (calls_by w) b.1 ∙ calls-append w note b.0) in
     x ∙ (ap (λ l. mine ++ l) (nothing mine (calls_by w a.0) (calls_by w b.0) (y ∙ ap (λ l. l ++ calls_by w b.0) x)) ∙ append-nil mine)
   where
     nothing : (m p q : List Entry) → m ≡ (m ++ p) ++ q → p ≡ []
     nothing m [] q e = refl
     nothing m (x ∷ xs) q e = absurd (let l = ap length e in let a = length-append (m ++ x ∷ xs) q in let b = length-append m (x ∷ xs) in omega arith)
 
-pub takes : (k : Key) (slots id i : ℕ) (me : Me ℕ View) (s0 : Step ℕ) → i < suc (region_count k.moves) → IsToldView me.0 → BeginsWith me.0.told (seen_of me.0)
-    → Allows (kept k) slots id me i (λ n. n) (takes_told s0 me)
+pub takes : (k : Key) (slots id i : ℕ) (me : Me ℕ View) (s0 : Step ℕ) → i < suc (region_count k.moves) → HasNote me.0 → BeginsWith me.0.note (seen_of me.0)
+    → Allows (kept k) slots id me i (λ n. n) (takes_note s0 me)
 takes k slots id i me s0 inside is longer s h homes at small = (
-  pass_view w me.0.told mine taken,
+  pass_view w me.0.note mine taken,
   keeps,
   tt,
-  reviewed k s h id i old (pass_view w me.0.told mine taken) inside here ((h.log, refl), (record { below = had.below; begins = all.0; calls = had.calls; seen_calls = calls }, tt)) (λ x. refl) refl,
+  reviewed k s h id i old (pass_view w me.0.note mine taken) inside here ((h.log, refl), (record { below = had.below; begins = all.0; calls = had.calls; seen_calls = calls }, tt)) (λ x. refl) refl,
   (refl, refl, refl, refl, refl, calls, refl),
 )
   where
@@ -170,7 +170,7 @@ takes k slots id i me s0 inside is longer s h homes at small = (
     taken = steps_of me.0 ++ touch_of s0 ∷ []
 
     old : View
-    old = record { told = me.0.told; holds = hold w (seen_of me.0) mine (steps_of me.0) ∷ [] }
+    old = record { note = me.0.note; holds = hold w (seen_of me.0) mine (steps_of me.0) ∷ [] }
 
     here : get_elem? s.views id ≡ some old
     here = at ∙ ap some is
@@ -181,14 +181,14 @@ takes k slots id i me s0 inside is longer s h homes at small = (
     had : HoldFits k.workers h.log (hold w (seen_of me.0) mine (steps_of me.0))
     had = all.1.0
 
-    calls : calls_by w me.0.told ≡ mine
-    calls = between w (seen_of me.0) me.0.told h.log mine longer all.0 had.seen_calls had.calls
+    calls : calls_by w me.0.note ≡ mine
+    calls = between w (seen_of me.0) me.0.note h.log mine longer all.0 had.seen_calls had.calls
 
 pub surveys_all : (k : Key) (slots id : ℕ) (me : Me ℕ View) (s0 : Step ℕ) → Allows (kept k) slots id me (region_count k.moves) (λ n. n) (surveys k.moves k.workers s0 me)
 surveys_all k slots id me s0 s h homes at small = (
-  record { told = h.log; holds = me.0.holds },
+  record { note = h.log; holds = me.0.holds },
   keeps,
   tt,
-  reviewed k s h id (region_count k.moves) me.0 (record { told = h.log; holds = me.0.holds }) (omega arith) at (begins_refl h.log, (h.each_view id me.0 at).1) (λ x. refl) refl,
+  reviewed k s h id (region_count k.moves) me.0 (record { note = h.log; holds = me.0.holds }) (omega arith) at (begins_refl h.log, (h.each_view id me.0 at).1) (λ x. refl) refl,
   (h.legal, (h.each_view id me.0 at).1, h.remaining),
 )

@@ -141,23 +141,23 @@ passes_push z k [] p n e are new = (subst (λ (q : ℕ). IsNew z q p) (omega ari
 passes_push z k (q ∷ qs) p n e are new = (are.0, passes_push z (suc k) qs p n (omega arith) are.1 new)
 
 -- the workers that are left to deal
-pub left_to_deal : (k a b : ℕ) → b ≡ suc a → others_of (record { told = []; holds = fresh k b }) ≡ record { told = []; holds = fresh (suc k) a }
-left_to_deal k a b e = ap (λ n. others_of (record { told = []; holds = fresh k n })) e
+pub left_to_deal : (k a b : ℕ) → b ≡ suc a → others_of (record { note = []; holds = fresh k b }) ≡ record { note = []; holds = fresh (suc k) a }
+left_to_deal k a b e = ap (λ n. others_of (record { note = []; holds = fresh k n })) e
 
-pub next_to_deal : (k a b : ℕ) → b ≡ suc a → first_of (record { told = []; holds = fresh k b }) ≡ record { told = []; holds = hold k [] [] [] ∷ [] }
-next_to_deal k a b e = ap (λ n. first_of (record { told = []; holds = fresh k n })) e
+pub next_to_deal : (k a b : ℕ) → b ≡ suc a → first_of (record { note = []; holds = fresh k b }) ≡ record { note = []; holds = hold k [] [] [] ∷ [] }
+next_to_deal k a b e = ap (λ n. first_of (record { note = []; holds = fresh k n })) e
 
 -- the seat that is left, once one more pass is dealt
-pub dealt : (l l' a a' : ℕ) (me me' : View × List (ℕ × ℕ)) → me' ≡ (others_of me.0, me.1) → me ≡ (record { told = []; holds = fresh l (suc a) }, []) → l' ≡ l + 1 → a ≡ suc a' → me' ≡ (record { told = []; holds = fresh l' (suc a') }, [])
+pub dealt : (l l' a a' : ℕ) (me me' : View × List (ℕ × ℕ)) → me' ≡ (others_of me.0, me.1) → me ≡ (record { note = []; holds = fresh l (suc a) }, []) → l' ≡ l + 1 → a ≡ suc a' → me' ≡ (record { note = []; holds = fresh l' (suc a') }, [])
 dealt l l' a a' me me' is was e f =
     let x : suc l ≡ l' = omega arith in
-    is ∙ (ap (λ (m : View × List (ℕ × ℕ)). (others_of m.0, m.1)) was ∙ (ap (λ n. (record { told = []; holds = fresh n a }, [])) x ∙ ap (λ n. (record { told = []; holds = fresh l' n }, [])) f))
+    is ∙ (ap (λ (m : View × List (ℕ × ℕ)). (others_of m.0, m.1)) was ∙ (ap (λ n. (record { note = []; holds = fresh n a }, [])) x ∙ ap (λ n. (record { note = []; holds = fresh l' n }, [])) f))
 
 -- the pass that is dealt
-pub dealt_one : (l a : ℕ) (me : View × List (ℕ × ℕ)) (v : View) → v ≡ first_of me.0 → me ≡ (record { told = []; holds = fresh l (suc a) }, []) → v ≡ record { told = []; holds = hold l [] [] [] ∷ [] }
+pub dealt_one : (l a : ℕ) (me : View × List (ℕ × ℕ)) (v : View) → v ≡ first_of me.0 → me ≡ (record { note = []; holds = fresh l (suc a) }, []) → v ≡ record { note = []; holds = hold l [] [] [] ∷ [] }
 dealt_one l a me v is was = is ∙ ap (λ (m : View × List (ℕ × ℕ)). first_of m.0) was
 
-pub new_pass : (z : TableId) (k : ℕ) (t : TableId) (v : View) → t ≡ z → v ≡ record { told = []; holds = hold k [] [] [] ∷ [] } → (t ≡ z) × (worker_of v ≡ k) × (seen_of v ≡ []) × (mine_of v ≡ [])
+pub new_pass : (z : TableId) (k : ℕ) (t : TableId) (v : View) → t ≡ z → v ≡ record { note = []; holds = hold k [] [] [] ∷ [] } → (t ≡ z) × (worker_of v ≡ k) × (seen_of v ≡ []) × (mine_of v ≡ [])
 new_pass z k t v there is = (there, ap worker_of is, ap seen_of is, ap mine_of is)
 
 pub opening_word : (m : MoveTable) (r readers x : ℕ) (b : Bool) → readers ≡ count_by (λ pair. r == pair.1) m.pairs → b ≡ to_fill m r → x ≡ readers + cond {A = ℕ} b 0 16 → x ≡ word_of m opening r

@@ -44,25 +44,7 @@ pub fn collect_alone<G: Gate>(
         Ok(prepared) => prepared,
         Err((image, fault)) => return Err(Refusal::Kept(image, fault)),
     };
-    match collected_alone(prepared, gate) {
-        Ok(done) => Ok(done),
-        Err(fault) => Err(Refusal::Lost(fault)),
-    }
-}
-
-/// Lets one worker fill all regions in the caller's thread, and finishes the board.
-fn collected_alone<G: Gate>(
-    prepared: Prepared<Board>,
-    gate: &G,
-) -> Result<(Outcome, Finished), Fault>
-    requires seats { All (λ w. board_of w.seat ≡ identity prepared.equipment.desk) prepared.equipment.staff.workers.items }
-    ensures image { IfOk result (λ done. done.0.image ≡ compact prepared.equipment.survey) }
-    ensures figures { IfOk result (λ done. done.0.figures ≡ figures_of prepared.equipment.survey) }
-    ensures legal { IfOk result (λ done. IsLegal (image_table prepared.equipment.survey) (worker_count prepared.equipment.desk) (history done.1)) }
-    ensures once { IfOk result (λ done. HasEachOnce (image_table prepared.equipment.survey) (history done.1)) }
-    ensures fault { IfErr result (λ fault. IsOverwritten fault ⊎ ((fault ≡ Fault.Gate)
-        × MayRefuse (G.may_refuse gate.now) 1 prepared.equipment.survey)) }
-{
-    let worked = prepared.work_alone(gate, &Tries { most: 0 })?;
-    finish_collection(worked)
+    let ended = prepared.run_alone(gate, &Tries { most: 0 })?;
+    let worked = ended.clean_up(&Alone)?;
+    Ok(finish_collection(worked)?)
 }

@@ -66,34 +66,8 @@ where
         }
     }
 
-    /// Runs all workers from this start line, and cleans up. Returns the fault of the lowest worker that met one, or
-    /// fault 15 if a region has not moved.
-    pub(crate) fn work<G: Gate + Sync, T: Threads + Sync, W: RetryPolicy + Sync>(
-        self,
-        start: &StartLine,
-        gate: &G,
-        threads: &T,
-        wait: &W,
-    ) -> Result<Worked<D>, Fault>
-    where
-        D: Desk<W> + Sync,
-        D::Seat: Send,
-        requires seats { All (λ w. D.serves self.equipment.desk w.seat) self.equipment.staff.workers.items }
-        ensures image { IfOk result (λ worked. worked.outcome.image ≡ compact self.equipment.survey) }
-        ensures figures { IfOk result (λ worked. worked.outcome.figures ≡ figures_of self.equipment.survey) }
-        ensures survey { IfOk result (λ worked. worked.survey ≡ self.equipment.survey) }
-        ensures desk { IfOk result (λ worked. worked.desk ≡ self.equipment.desk) }
-        ensures seats { IfOk result (λ worked. All (D.serves worked.desk) worked.seats.items) }
-        ensures fault { IfErr result (IsLostTo D.may_fail (G.may_refuse gate.now)
-            (vec_len self.equipment.staff.workers) self.equipment.survey) }
-    {
-        let most = self.equipment.staff.workers.len();
-        let ended = self.run(start, gate, threads, wait)?;
-        ended.clean_up(&Many { threads, most })
-    }
-
     /// Runs all workers from this start line. Returns the fault of the lowest worker that met one.
-    fn run<G: Gate + Sync, T: Threads + Sync, W: RetryPolicy + Sync>(
+    pub(crate) fn run<G: Gate + Sync, T: Threads + Sync, W: RetryPolicy + Sync>(
         self,
         start: &StartLine,
         gate: &G,
@@ -145,29 +119,8 @@ where
         })
     }
 
-    /// Lets worker 0 fill all regions in the caller's thread, and cleans up there. Returns the fault that it met, or
-    /// fault 15 if a region has not moved.
-    pub(crate) fn work_alone<G: Gate, W: RetryPolicy>(
-        self,
-        gate: &G,
-        policy: &W,
-    ) -> Result<Worked<D>, Fault>
-    where
-        D: Desk<W>,
-        requires seats { All (λ w. D.serves self.equipment.desk w.seat) self.equipment.staff.workers.items }
-        ensures image { IfOk result (λ worked. worked.outcome.image ≡ compact self.equipment.survey) }
-        ensures figures { IfOk result (λ worked. worked.outcome.figures ≡ figures_of self.equipment.survey) }
-        ensures survey { IfOk result (λ worked. worked.survey ≡ self.equipment.survey) }
-        ensures desk { IfOk result (λ worked. worked.desk ≡ self.equipment.desk) }
-        ensures seats { IfOk result (λ worked. All (D.serves worked.desk) worked.seats.items) }
-        ensures fault { IfErr result (IsLostTo D.may_fail (G.may_refuse gate.now) 1 self.equipment.survey) }
-    {
-        let ended = self.run_alone(gate, policy)?;
-        ended.clean_up(&Alone)
-    }
-
     /// Lets worker 0 fill all regions in the caller's thread. Returns the fault that it met.
-    fn run_alone<G: Gate, W: RetryPolicy>(self, gate: &G, policy: &W) -> Result<Ended<D>, Fault>
+    pub(crate) fn run_alone<G: Gate, W: RetryPolicy>(self, gate: &G, policy: &W) -> Result<Ended<D>, Fault>
     where
         D: Desk<W>,
         requires seats { All (λ w. D.serves self.equipment.desk w.seat) self.equipment.staff.workers.items }

@@ -46,36 +46,18 @@ pub fn record<G: Gate + Sync, T: Threads + Sync, W: Wait + Sync>(
     ensures lost { IfErr result (λ refusal. IfLost refusal IsLoss) }
     ensures gate { result ≡ Err (Lost Fault.Gate) → MayRefuse (G.may_refuse gate.now) workers image }
 {
-    let most = workers as usize;
-    let prepared = match Prepared::<Recorder>::new(alloc, image, workers, &Many { threads, most }) {
+    let hands = Many {
+        threads,
+        most: workers as usize,
+    };
+    let prepared = match Prepared::<Recorder>::new(alloc, image, workers, &hands) {
         Ok(prepared) => prepared,
         Err((image, fault)) => return Err(Refusal::Kept(image, fault)),
     };
-    match recorded(alloc, prepared, gate, threads, wait) {
-        Ok(done) => Ok(done),
-        Err(fault) => Err(Refusal::Lost(fault)),
-    }
-}
-
-/// Runs all workers, which begin together, and returns the schedule of their calls.
-fn recorded<G: Gate + Sync, T: Threads + Sync, W: Wait + Sync>(
-    alloc: Global,
-    prepared: Prepared<Recorder>,
-    gate: &G,
-    threads: &T,
-    wait: &W,
-) -> Result<(Outcome, Schedule), Fault>
-    requires seats { All (λ w. w.seat < worker_count prepared.equipment.desk) prepared.equipment.staff.workers.items }
-    ensures image { IfOk result (λ done. done.0.image ≡ compact prepared.equipment.survey) }
-    ensures figures { IfOk result (λ done. done.0.figures ≡ figures_of prepared.equipment.survey) }
-    ensures schedule { IfOk result (λ done. IsRecord prepared.equipment.survey (worker_count prepared.equipment.desk) done.1) }
-    ensures loss { IfErr result (IsLossBy
-        (MayRefuse (G.may_refuse gate.now) (worker_count prepared.equipment.desk) prepared.equipment.survey)) }
-{
-    let workers = prepared.equipment.staff.workers.len();
-    let start = StartLine::awaiting(workers);
-    let worked = prepared.work(&start, gate, threads, wait)?;
-    let schedule = whole_schedule(alloc, worked.desk, worked.survey.plan(), workers as u32)?;
+    let start = StartLine::awaiting(workers as usize);
+    let ended = prepared.run(&start, gate, threads, wait)?;
+    let worked = ended.clean_up(&hands)?;
+    let schedule = whole_schedule(alloc, worked.desk, worked.survey.plan(), workers)?;
     Ok((worked.outcome, schedule))
 }
 

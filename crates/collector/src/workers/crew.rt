@@ -150,7 +150,8 @@ impl<'a, D: Desk<W>, G: Gate, W: RetryPolicy> Crew<'a, D, G, W> {
         }
     }
 
-    /// Claims a region, and fills and settles it if it is granted. Returns whether all regions to fill are settled.
+    /// Claims a region, and fills and settles it if it is granted and the gate admits it. Returns whether all regions to
+    /// fill are settled.
     fn visit(&self, number: u32, worker: &mut Worker<D::Seat>, region: u32) -> Result<bool, Halt>
         requires seat { D.serves self.now.desk.now worker.old.seat }
         requires region { region < fill_count self.now.survey.now }
@@ -160,27 +161,9 @@ impl<'a, D: Desk<W>, G: Gate, W: RetryPolicy> Crew<'a, D, G, W> {
         moves_of_images();
         regions_to_fill();
         planned_image_is_valid(self.survey.plan());
-        match self.desk.claim(&mut worker.seat, region, self.wait)? {
-            Some(ticket) => self.settle(number, worker, ticket),
-            None => Ok(false),
-        }
-    }
-
-    /// Fills and settles the region of a ticket if the gate admits it. Returns whether all regions to fill are settled.
-    fn settle(
-        &self,
-        number: u32,
-        worker: &mut Worker<D::Seat>,
-        ticket: Ticket,
-    ) -> Result<bool, Halt>
-        requires seat { D.serves self.now.desk.now worker.old.seat }
-        requires region { ticket.region < fill_count self.now.survey.now }
-        requires unused { IsUnused ticket }
-        requires ticket { D.tells → IsTicketOf (D.moves self.now.desk.now) (D.caller worker.old.seat) ticket }
-        ensures seat { D.serves self.now.desk.now worker.new.seat }
-        ensures halt { IfErr result (MayHalt D.may_fail (G.may_refuse self.now.gate.now number) (fill_count self.now.survey.now)) }
-    {
-        let region = ticket.region();
+        let Some(ticket) = self.desk.claim(&mut worker.seat, region, self.wait)? else {
+            return Ok(false);
+        };
         if let Err(halt) = self.admit(number, region) {
             ticket.give_up();
             return Err(halt);
@@ -224,12 +207,20 @@ impl<'a, D: Desk<W>, G: Gate, W: RetryPolicy> Crew<'a, D, G, W> {
         let fill_regions = self.survey.plan().fill_regions();
         let ready = &mut worker.ready;
         let mut refused = None;
-        let queue = |source: u32| {
+        let mut queue = |source: u32| {
             if source < fill_regions && !ready.push(source) {
                 refused = Some(source);
             }
         };
-        let done = self.fill_region(&mut worker.seat, ticket, queue)?;
+        let (done, _placed) = fill_region(
+            self.desk,
+            self.cells,
+            self.survey,
+            &mut worker.seat,
+            ticket,
+            &mut queue,
+            self.wait,
+        )?;
         match refused {
             Some(source) => {
                 done.give_up();
@@ -237,33 +228,6 @@ impl<'a, D: Desk<W>, G: Gate, W: RetryPolicy> Crew<'a, D, G, W> {
             }
             None => Ok(done),
         }
-    }
-
-    /// Fills the region of a ticket. Calls `on_last` with each region that has no pending readers any more.
-    fn fill_region<F: FnMut(u32)>(
-        &self,
-        seat: &mut D::Seat,
-        ticket: Ticket,
-        mut on_last: F,
-    ) -> Result<Done, Fault>
-        requires seat { D.serves self.now.desk.now seat.old }
-        requires callable { F.IsAlwaysCallable on_last }
-        requires unused { IsUnused ticket }
-        requires ticket { D.tells → IsTicketOf (D.moves self.now.desk.now) (D.caller seat.old) ticket }
-        ensures seat { D.serves self.now.desk.now seat.new }
-        ensures done { IfOk result (λ done. D.tells → IsDoneOf (D.caller seat.new) done) }
-        ensures fault { IfErr result (IsFaultOf D.may_fail) }
-    {
-        let (done, _placed) = fill_region(
-            self.desk,
-            self.cells,
-            self.survey,
-            seat,
-            ticket,
-            &mut on_last,
-            self.wait,
-        )?;
-        Ok(done)
     }
 }
 

@@ -1,7 +1,7 @@
 //! The front: the first 32 bytes of an image's text.
 ghost use Rattle.std.specs.Prelude.{◌≡◌, ◌≢◌, ◌≤◌, ◌^◌, ◌+◌, ◌*◌, length, take, is_some, Some, IfOk, IfErr, IfNone, IfSome, option_map};
 ghost use Rattle.std.specs.Str.{bytes_eq};
-ghost use Rattle.heap_image.specs.Front.{Fits, HasAllowedRegions, IsToldBy, bytes_of};
+ghost use Rattle.heap_image.specs.Front.{Fits, HasAllowedRegions, IsOfBytes, bytes_of};
 ghost use Rattle.heap_image.specs.ImageText.{front_faults, first_some, encoded_version};
 ghost use Rattle.object_heap.specs.Version.{magic, Allows};
 ghost use Rattle.object_heap.specs.HeapImage.{IsWithinLimits};
@@ -50,7 +50,7 @@ impl Front {
     /// region log.
     pub(crate) fn parse_unvalidated(bytes: &[u8]) -> Result<Front, Fault>
         requires { length bytes.now ≡ 32 }
-        ensures told { IfOk result (IsToldBy bytes.now) }
+        ensures fields { IfOk result (IsOfBytes bytes.now) }
         ensures allowed { IfOk result HasAllowedRegions }
         // The only fault that such a front can have is 4.
         ensures length { IfOk result (λ parsed. first_some (front_faults bytes.now)

@@ -13,7 +13,7 @@ use Rattle.scheduler.specs.State.{State, opening, state_after, Allows, AllAreSet
 use Rattle.scheduler.specs.PackedLine.{IsSmall}
 use Rattle.scheduler.specs.Scheduler.{state_in}
 use Rattle.scheduler.specs.History.{entry, AreSteps, IsLegal, IsReached}
-use Rattle.scheduler.specs.Schedule.{ScheduleView, IsSchedule, is_event, is_told_reply, is_line, line_of}
+use Rattle.scheduler.specs.Schedule.{ScheduleView, IsSchedule, is_event, is_line_reply, is_line, line_of}
 use Rattle.history.specs.Slide.{Slide, IsSlideOf, Machine, write_words, word_for, words_of, AllowsWords, machine_after, copied}
 use Rattle.scheduler.specs.ImageMoves.{image_table}
 use Rattle.history.specs.WordMachine.{image_slide, machine_start, machine_of}
@@ -196,7 +196,7 @@ worker_fits v items number ledger line formed same workers inside there =
     let lines : All (λ (l : Line). IsTrue (is_line v.workers l)) items = subst (λ (ls : List Line). All (λ (l : Line). IsTrue (is_line v.workers l)) ls) (sym same) formed.lines in
     let item : is_line v.workers (get_or items number no_line) ≡ true = All-get_or (λ (l : Line). IsTrue (is_line v.workers l)) items number no_line inside lines in
     let fits : is_line v.workers line ≡ true = ap (is_line v.workers) there ∙ item in
-    let low = ltb-true line.worker v.workers (and_parts (nat_lt line.worker v.workers) (is_event line.event && is_told_reply line.event line.reply) fits).0 in
+    let low = ltb-true line.worker v.workers (and_parts (nat_lt line.worker v.workers) (is_event line.event && is_line_reply line.event line.reply) fits).0 in
     subst (λ (n : ℕ). line.worker < n) (sym workers) low
 
 -- all lines are carried out

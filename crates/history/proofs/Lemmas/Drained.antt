@@ -100,7 +100,7 @@ origin_stands m p start w worker d x slide kept own room from = kept.stands x (a
     other : (d ≡ x / p.size → ⊥) → x % p.size < w.written (x / p.size) → ⊥
     other n lt =
         let some = some_where_not_none (w.known.claimed (x / p.size)) (λ none. let z : w.written (x / p.size) ≡ 0 = kept.untouched (x / p.size) none in omega arith) in
-        let reads_it : IsTrue (reads m d (x / p.size)) = rw place.region at (slide.told (next_place p d w) x place.below from (λ e. n (sym place.region ∙ e))) in
+        let reads_it : IsTrue (reads m d (x / p.size)) = rw place.region at (slide.crossing (next_place p d w) x place.below from (λ e. n (sym place.region ∙ e))) in
         let drained : IsTrue (w.known.drained d (x / p.size)) = kept.read_out d (x / p.size) some.0 some.1 reads_it in
         let out : IsWritten p w (next_place p d w) = kept.copied_out d (x / p.size) drained (next_place p d w) x place.below place.region from refl in
         let out' : w.written d < w.written d = rw (place.offset, place.region) at out in

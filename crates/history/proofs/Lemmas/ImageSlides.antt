@@ -26,7 +26,7 @@ image_slides law image valid fills pairs =
     record {
       sized = region_some image;
       down = λ a x l from. law.origin-up image valid.live_list a x from;
-      told = λ a x l from apart. pairs (region_of image a) (region_of image x)
+      crossing = λ a x l from apart. pairs (region_of image a) (region_of image x)
           ∙ and_from (not (region_of image a == region_of image x)) (image_reads image (region_of image a) (region_of image x))
           (not_from_false (region_of image a == region_of image x) (ne_eqb (region_of image a) (region_of image x) apart)) (law.origin-reads image valid.live_list a x from);
       filled = λ a l. fills (region_of image a) ∙ written_to_fill image a l;

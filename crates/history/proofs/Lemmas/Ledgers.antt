@@ -147,7 +147,7 @@ reply_refused image workers old new line told reply is other leads w tells e cal
     let step' : IsMachineStep (image_table image) (image_slide image) workers w (entry line.worker line.event e.reply) =
     subst (λ (f : Entry). IsMachineStep (image_table image) (image_slide image) workers w f) (call_is line e call) step in
     let same : e.reply ≡ reply = step'.1.replied ∙ sym own.1.replied in
-    other (some_told told e.reply line.reply is call.told ∙ same)
+    other (some_told told e.reply line.reply is call.reply ∙ same)
 
 -- and that reply is the cause
 pub reply_cause : (image : HeapImage) (workers : ℕ) (old new : Ledger) (line : Line) (told reply : Reply) → line.reply ≡ Some told → told ≢ reply

@@ -25,7 +25,7 @@ told_reply : (r s : Reply) → (◌≡◌ {A = Option Reply} (Some r) None) ⊎ 
 told_reply r s told = ⊎_elim (λ (none : Some r ≡ None). absurd (none-some r (sym none))) (λ (some : Some r ≡ Some s). sym (same_Some r s some)) told
 
 call_is : (e f : Entry) → IsCallOfLine (line_of e) f → f ≡ e
-call_is e f is = entry_is f.worker e.worker f.event e.event f.reply e.reply is.worker is.event (told_reply e.reply f.reply is.told)
+call_is e f is = entry_is f.worker e.worker f.event e.event f.reply e.reply is.worker is.event (told_reply e.reply f.reply is.reply)
 
 calls_are : (es log : List Entry) → AreCallsOf (map line_of es) log → log ≡ es
 calls_are [] [] calls = refl
@@ -46,7 +46,7 @@ recorded image v lawful each history checked =
     let known : (machine_of image checked.log).known ≡ state_of checked.log = known-machine_from (image_slide image) (machine_start image) checked.log in
     record {
       log = checked.log;
-      told = schedule_is v checked.log (told ∙ ap (map line_of) (sym same));
+      schedule = schedule_is v checked.log (told ∙ ap (map line_of) (sym same));
       allowed = checked.taken.allowed;
       once = each (image_table image) v.workers checked.log lawful
           (legal_steps (image_table image) (image_slide image) v.workers (machine_start image) checked.log checked.taken.allowed)

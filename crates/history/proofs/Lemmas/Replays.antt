@@ -55,7 +55,7 @@ told_reply r s (inr some) = cc
 pub told_calls : (es log : List Entry) → AreCallsOf (map line_of es) log → log ≡ es
 told_calls [] [] calls = refl
 told_calls (e ∷ es) (f ∷ fs) calls =
-    let first : f ≡ e = same_entry f e calls.0.worker calls.0.event (told_reply e.reply f.reply calls.0.told) in
+    let first : f ≡ e = same_entry f e calls.0.worker calls.0.event (told_reply e.reply f.reply calls.0.reply) in
     let rest : fs ≡ es = told_calls es fs calls.1 in
     cc
 told_calls [] (f ∷ fs) calls = absurd calls

@@ -5,9 +5,9 @@ use Rattle.std.proofs.Math.ListN.{length-append}
 use Rattle.std.proofs.lemmas.Bool.{leb-true, false≢true}
 use Rattle.std.proofs.lemmas.Fmt.{decimal_digit, decimal_injective}
 use Rattle.std.proofs.lemmas.List.Elements.{All-head, All-tail}
-use Rattle.scheduler.specs.Schedule.{ScheduleView, is_reply_to, is_told_reply}
+use Rattle.scheduler.specs.Schedule.{ScheduleView, is_reply_to, is_line_reply}
 use Rattle.scheduler.specs.CallText.{event_text, reply_text}
-use Rattle.history.specs.ScheduleText.{told_text, line_text, header_text, schedule_text}
+use Rattle.history.specs.ScheduleText.{line_reply_text, line_text, header_text, schedule_text}
 use Rattle.history.specs.ReadSchedule.{is_text_line, IsTextSchedule, IsMalformedAt}
 use Rattle.scheduler.specs.declared.event.Event.{Event}
 use Rattle.scheduler.specs.declared.event.Event.TheVariants.{Look}
@@ -55,7 +55,7 @@ outside_few : (event : Event) (n : ℕ) → is_reply_to event (Outside n) ≡ tr
 outside_few (Look r) n h = leb-true n 2 h
 outside_few _ n h = absurd (false≢true h)
 
-told_back-text : (event : Event) (told : Option Reply) → is_told_reply event told ≡ true → told_back (told_text told) ≡ told
+told_back-text : (event : Event) (told : Option Reply) → is_line_reply event told ≡ true → told_back (line_reply_text told) ≡ told
 unfolding told_back reply_back
 told_back-text event None h = refl
 told_back-text event (Some Yes) h = refl
@@ -70,15 +70,15 @@ told_back-text event (Some Done) h = refl
 told_back-text event (Some AllSettled) h = refl
 told_back-text event (Some More) h = refl
 
-told_injective : (event : Event) (t u : Option Reply) → is_told_reply event t ≡ true → is_told_reply event u ≡ true → told_text t ≡ told_text u → t ≡ u
+told_injective : (event : Event) (t u : Option Reply) → is_line_reply event t ≡ true → is_line_reply event u ≡ true → line_reply_text t ≡ line_reply_text u → t ≡ u
 told_injective event t u h k e = sym (told_back-text event t h) ∙ (ap told_back e ∙ told_back-text event u k)
 
-line_parts : (l : Line) (rest : List ℕ) → line_text l ++ rest ≡ decimal l.worker ++ 32 ∷ (event_text l.event ++ 32 ∷ (told_text l.reply ++ 10 ∷ rest))
+line_parts : (l : Line) (rest : List ℕ) → line_text l ++ rest ≡ decimal l.worker ++ 32 ∷ (event_text l.event ++ 32 ∷ (line_reply_text l.reply ++ 10 ∷ rest))
 line_parts l rest =
-    let told : List ℕ = told_text l.reply ++ (10 ∷ []) in
+    let told : List ℕ = line_reply_text l.reply ++ (10 ∷ []) in
     append_assoc (decimal l.worker) (32 ∷ (event_text l.event ++ (32 ∷ told))) rest
     ∙ ap (λ (xs : List ℕ). decimal l.worker ++ 32 ∷ xs)
-    (append_assoc (event_text l.event) (32 ∷ told) rest ∙ ap (λ (xs : List ℕ). event_text l.event ++ 32 ∷ xs) (append_assoc (told_text l.reply) (10 ∷ []) rest))
+    (append_assoc (event_text l.event) (32 ∷ told) rest ∙ ap (λ (xs : List ℕ). event_text l.event ++ 32 ∷ xs) (append_assoc (line_reply_text l.reply) (10 ∷ []) rest))
 
 line_same : (l k : Line) → k.worker ≡ l.worker → k.event ≡ l.event → k.reply ≡ l.reply → k ≡ l
 line_same l k a b c = go k.worker l.worker k.event l.event k.reply l.reply a b c
@@ -92,10 +92,10 @@ line_unique workers l k rest after most fits fits' same =
     let f : IsTextLine workers l = text_line workers l fits in
     let g : IsTextLine workers k = text_line workers k fits' in
     let low : k.worker < workers = g.worker in
-    let a = behind_worker workers k.worker l (line_text k ++ after) (event_text k.event ++ 32 ∷ (told_text k.reply ++ 10 ∷ after)) rest most f (omega arith) (line_parts k after) (sym same) in
-    let b = event_unique k.event l.event (told_text k.reply ++ 10 ∷ after) (told_text l.reply ++ 10 ∷ rest) g.numbers f.numbers a.1 in
-    let d = split_unique 10 (told_text k.reply) (told_text l.reply) after rest (told_without k.event k.reply g.reply) (told_without l.event l.reply f.reply) b.1 in
-    let reply : k.reply ≡ l.reply = told_injective l.event k.reply l.reply (ap (λ (e : Event). is_told_reply e k.reply) (sym b.0) ∙ g.reply) f.reply d.0 in
+    let a = behind_worker workers k.worker l (line_text k ++ after) (event_text k.event ++ 32 ∷ (line_reply_text k.reply ++ 10 ∷ after)) rest most f (omega arith) (line_parts k after) (sym same) in
+    let b = event_unique k.event l.event (line_reply_text k.reply ++ 10 ∷ after) (line_reply_text l.reply ++ 10 ∷ rest) g.numbers f.numbers a.1 in
+    let d = split_unique 10 (line_reply_text k.reply) (line_reply_text l.reply) after rest (told_without k.event k.reply g.reply) (told_without l.event l.reply f.reply) b.1 in
+    let reply : k.reply ≡ l.reply = told_injective l.event k.reply l.reply (ap (λ (e : Event). is_line_reply e k.reply) (sym b.0) ∙ g.reply) f.reply d.0 in
     (line_same l k a.0 b.0 reply, d.1)
 
 -- a header at the front is unique, and so is what follows
@@ -108,8 +108,8 @@ header_unique m n rest after few few' same =
 
 line_some : (l : Line) (rest : List ℕ) → line_text l ++ rest ≢ []
 line_some l rest e =
-    let long : length (decimal l.worker ++ 32 ∷ (event_text l.event ++ 32 ∷ (told_text l.reply ++ 10 ∷ rest))) ≡ 0 = ap (length {A = ℕ}) (sym (line_parts l rest) ∙ e) in
-    let parts = length-append (decimal l.worker) (32 ∷ (event_text l.event ++ 32 ∷ (told_text l.reply ++ 10 ∷ rest))) in
+    let long : length (decimal l.worker ++ 32 ∷ (event_text l.event ++ 32 ∷ (line_reply_text l.reply ++ 10 ∷ rest))) ≡ 0 = ap (length {A = ℕ}) (sym (line_parts l rest) ∙ e) in
+    let parts = length-append (decimal l.worker) (32 ∷ (event_text l.event ++ 32 ∷ (line_reply_text l.reply ++ 10 ∷ rest))) in
     absurd (omega arith)
 
 more_text : (l : Line) (ls : List Line) (rest : List ℕ) → flat_map line_text (l ∷ ls) ++ rest ≡ line_text l ++ (flat_map line_text ls ++ rest)

@@ -10,9 +10,9 @@ use Rattle.std.proofs.lemmas.List.Prefix.{front_rest}
 use borrow.Rule.Slice.PartMut.{put_mid}
 use Rattle.history.specs.Reading.{is_without}
 use Rattle.history.specs.ReadSchedule.{is_text_line, IsTextSchedule, IsBadHeader, IsMalformedAt}
-use Rattle.scheduler.specs.Schedule.{is_reply_to, is_told_reply}
+use Rattle.scheduler.specs.Schedule.{is_reply_to, is_line_reply}
 use Rattle.scheduler.specs.CallText.{event_text, reply_text}
-use Rattle.history.specs.ScheduleText.{told_text, line_text, header_text, schedule_text}
+use Rattle.history.specs.ScheduleText.{line_reply_text, line_text, header_text, schedule_text}
 use Rattle.history.specs.Verb.{has_numbers}
 use Rattle.history.specs.Window.{HoldLine}
 use Rattle.scheduler.specs.declared.event.Event.{Event}
@@ -80,7 +80,7 @@ reply_word event Done h = within 2 7 (codes "ok") (omega arith) (literal (codes 
 reply_word event All h = within 3 7 (codes "all") (omega arith) (literal (codes "all") 3 refl refl)
 reply_word event More h = within 4 7 (codes "more") (omega arith) (literal (codes "more") 4 refl refl)
 
-told_word : (event : Event) (told : Option Reply) → is_told_reply event told ≡ true → IsWord 7 (told_text told)
+told_word : (event : Event) (told : Option Reply) → is_line_reply event told ≡ true → IsWord 7 (line_reply_text told)
 told_word event None h = within 1 7 (codes "?") (omega arith) (literal (codes "?") 1 refl refl)
 told_word event (Some reply) h = reply_word event reply h
 
@@ -96,7 +96,7 @@ line_is_one workers l most h =
     let fits = text_line workers l h in
     let below : l.worker < workers = fits.worker in
     let event : List ℕ = event_text l.event in
-    let told : List ℕ = told_text l.reply in
+    let told : List ℕ = line_reply_text l.reply in
     let space : IsWord 1 (32 ∷ []) = literal (32 ∷ []) 1 refl refl in
     let word : List ℕ = decimal l.worker ++ (32 ∷ (event ++ (32 ∷ told))) in
     let all : IsWord 38 word =

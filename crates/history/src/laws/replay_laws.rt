@@ -20,5 +20,5 @@ pub fn what_replays_keep()
     ensures one { (image : HeapImage) (workers : ℕ) (lines : List Line) (log other : List Entry) → IsReplay image workers lines log → IsReplay image workers lines other → log ≡ other }
     ensures refused { (image : HeapImage) (v : ScheduleView) (line : ℕ) (log : List Entry) → IsRefusedAt image v line → ¬ (IsReplay image v.workers v.lines log) }
     ensures once { (image : HeapImage) (v : ScheduleView) (line other : ℕ) → IsRefusedAt image v line → IsRefusedAt image v other → line ≡ other }
-    ensures told { (told log : List Entry) → AreCallsOf (map line_of told) log → log ≡ told }
+    ensures calls { (calls log : List Entry) → AreCallsOf (map line_of calls) log → log ≡ calls }
 {}

@@ -60,7 +60,7 @@ impl Ledger {
             return Err(LineCause::NotAllowed);
         };
         match line.reply {
-            Some(told) if told != reply => Err(LineCause::OtherReply(reply)),
+            Some(expected) if expected != reply => Err(LineCause::OtherReply(reply)),
             _ => Ok(reply),
         }
     }

@@ -1,14 +1,14 @@
 //! Parsing of replies.
 
 ghost use Rattle.std.specs.Prelude.{◌≡◌, ◌≢◌, ℕ, IsTrue, MatchOption, decimal, nat_le};
-ghost use Rattle.history.specs.ReplyText.{ReadsReply, ReadsTold};
+ghost use Rattle.history.specs.ReplyText.{ReadsReply, ReadsLineReply};
 
 use super::reading::number;
 use scheduler::{Event, Reply};
 
 /// Parses a reply to this event; `?` leaves the reply open.
 pub(crate) fn parse_reply(event: Event, word: &[u8]) -> Option<Option<Reply>>
-    ensures { ReadsTold event word.now result }
+    ensures { ReadsLineReply event word.now result }
 {
     match word {
         b"?" => Some(None),

@@ -45,7 +45,7 @@ book_step old new lines e kept few moves workers step =
       some = rw workers kept.some;
       few = rw workers kept.few;
       table = rw moves kept.table;
-      told = ap (λ ls. ls ++ line_of e ∷ []) kept.told ∙ (sym (map-append line_of (entries_of lines) (e ∷ [])) ∙ ap (map line_of) (sym push));
+      replies = ap (λ ls. ls ++ line_of e ∷ []) kept.replies ∙ (sym (map-append line_of (entries_of lines) (e ∷ [])) ∙ ap (map line_of) (sym push));
       legal = subst (λ (m : MoveTable). IsLegal m new.workers (entries_of (lines ++ line_of e ∷ []))) (sym moves) (subst (λ (n : ℕ). IsLegal old.moves n (entries_of (lines ++ line_of e ∷ []))) (sym workers) legal');
       leads = step.after ∙ (ap (λ (s : State). state_after s e.worker e.event e.reply) kept.leads ∙ (sym (state_from-append opening (entries_of lines) (e ∷ [])) ∙ ap state_of (sym push)));
     }
@@ -115,7 +115,7 @@ book_schedule scheduler lines kept =
     record {
       some = kept.some;
       few = kept.few;
-      lines = subst (λ (ls : List Line). All (λ line. IsTrue (is_line scheduler.workers line)) ls) (sym kept.told) (steps_fit scheduler.moves scheduler.workers opening (entries_of lines) kept.table kept.legal);
+      lines = subst (λ (ls : List Line). All (λ line. IsTrue (is_line scheduler.workers line)) ls) (sym kept.replies) (steps_fit scheduler.moves scheduler.workers opening (entries_of lines) kept.table kept.legal);
     }
 
 -- a book after a call

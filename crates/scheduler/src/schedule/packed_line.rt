@@ -42,7 +42,7 @@ impl PackedLine {
         requires { IsSmall line }
         ensures { result ≡ line }
     {
-        let packed = Snapshot::of(&line);
+        let whole = Snapshot::of(&line);
         let (verb, first, second) = event_parts(line.event);
         let (reply, readers) = reply_parts(line.reply);
         PackedLine {
@@ -52,7 +52,7 @@ impl PackedLine {
             readers,
             first,
             second,
-            line: packed,
+            line: whole,
         }
     }
 

@@ -12,7 +12,7 @@ use Rattle.object_heap.specs.HeapImage.{HeapImage, IsValid, region_words, region
 use Rattle.summary.specs.NewAddresses.{prefix_end}
 use Rattle.summary.specs.RegionData.{data_words, destination, source, region_data}
 use Rattle.summary.specs.Layout.{placed_region}
-use Rattle.summary.specs.Sources.{told, told_region, StartsOnly}
+use Rattle.summary.specs.Sources.{if_below, region_so_far, StartsOnly}
 use Rattle.summary.specs.declared.region_data.RegionData.{RegionData}
 use Rattle.summary.proofs.Lemmas.Addresses.{prefix_end-le}
 use Rattle.summary.proofs.Lemmas.Layouts.{data-le, destination-low, destination-fits, destination-high}
@@ -20,15 +20,15 @@ use Rattle.summary.proofs.Lemmas.Readers.{data-in_range, region_below}
 use Rattle.summary.proofs.Lemmas.Regions.{region_some, region_is, region_apart}
 use Rattle.summary.proofs.Lemmas.Steps.{source-at, source-is}
 
-told-none : (o : Option ℕ) → told o 0 ≡ None
+told-none : (o : Option ℕ) → if_below o 0 ≡ None
 told-none None = refl
 told-none (Some t) = cond-false (ltb t 0) (Some t) None (le-ltb t 0 (omega arith))
 
-told-all : (o : Option ℕ) (n : ℕ) → ((t : ℕ) → o ≡ Some t → t < n) → told o n ≡ o
+told-all : (o : Option ℕ) (n : ℕ) → ((t : ℕ) → o ≡ Some t → t < n) → if_below o n ≡ o
 told-all None n h = refl
 told-all (Some t) n h = cond-true (ltb t n) (Some t) None (lt-ltb t n (h t refl))
 
-told-same : (o : Option ℕ) (s : ℕ) → o ≢ Some s → told o (s + 1) ≡ told o s
+told-same : (o : Option ℕ) (s : ℕ) → o ≢ Some s → if_below o (s + 1) ≡ if_below o s
 told-same None s h = refl
 told-same (Some t) s h = elim (cases_order t s) [
   | inl same ↦ absurd (h (ap Some same))
@@ -38,8 +38,8 @@ told-same (Some t) s h = elim (cases_order t s) [
   ]
 ]
 
-told-new : (o : Option ℕ) (s : ℕ) → o ≡ Some s → told o (s + 1) ≡ Some s
-told-new o s e = ap (λ p. told p (s + 1)) e ∙ cond-true (ltb s (s + 1)) (Some s) None (lt-ltb s (s + 1) (omega arith))
+told-new : (o : Option ℕ) (s : ℕ) → o ≡ Some s → if_below o (s + 1) ≡ Some s
+told-new o s e = ap (λ p. if_below p (s + 1)) e ∙ cond-true (ltb s (s + 1)) (Some s) None (lt-ltb s (s + 1) (omega arith))
 
 module _ (image : HeapImage) where
   abbrev pub with_source : ℕ → Option ℕ → RegionData
@@ -47,7 +47,7 @@ module _ (image : HeapImage) where
 
   -- these regions have the sources that are among the first s regions
   abbrev pub Told : ℕ → List RegionData → Type 0
-  Told s regions = (length regions ≡ region_count image) × ((d : ℕ) (none : RegionData) → d < region_count image → get_or regions d none ≡ told_region image s d)
+  Told s regions = (length regions ≡ region_count image) × ((d : ℕ) (none : RegionData) → d < region_count image → get_or regions d none ≡ region_so_far image s d)
 
 module _ (image : HeapImage) (valid : IsValid image) where
   abbrev P : ℕ
@@ -132,7 +132,7 @@ module _ (image : HeapImage) (valid : IsValid image) where
   pub told_none : (s : ℕ) (regions : List RegionData) → ((d : ℕ) → source image d ≢ Some s) → Told image s regions → Told image (s + 1) regions
   told_none s regions none h = (h.0, λ d z l. h.1 d z l ∙ ap (with_source image d) (sym (told-same (source image d) s (none d))))
 
-  pub told_one : (s d : ℕ) (regions : List RegionData) (changed : RegionData) → StartsOnly image s d → changed ≡ record (told_region image s d) { source = Some s } → Told image s regions → Told image (s + 1) (set regions d changed)
+  pub told_one : (s d : ℕ) (regions : List RegionData) (changed : RegionData) → StartsOnly image s d → changed ≡ record (region_so_far image s d) { source = Some s } → Told image s regions → Told image (s + 1) (set regions d changed)
   told_one s d regions changed starts e h = (
     length-set regions d changed ∙ h.0,
     λ k z l. elim (cases_order k d) [
@@ -142,7 +142,7 @@ module _ (image : HeapImage) (valid : IsValid image) where
           ∙ get_or-set_same regions d changed z inside
           ∙ e
           ∙ ap (with_source image d) (sym (told-new (source image d) s starts.here))
-          ∙ ap (told_region image (s + 1)) (sym same)
+          ∙ ap (region_so_far image (s + 1)) (sym same)
       | inr other ↦
           let differ : k ≢ d = λ same. elim other [ inl less ↦ let no : ⊥ = omega arith in no | inr more ↦ let no : ⊥ = omega arith in no ] in
           get_or-set_other regions d k changed z differ

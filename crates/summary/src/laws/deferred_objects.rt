@@ -18,7 +18,7 @@ pub fn one_deferred_object()
         → region_of image (new_address image (object_at image i))
         ≡ region_of image (new_address image (object_at image k))
         → object_at image i ≡ object_at image k }
-    ensures told { (image : HeapImage) → HasLiveList image → (i : ℕ) → i < object_count image
+    ensures address { (image : HeapImage) → HasLiveList image → (i : ℕ) → i < object_count image
         → is_deferred image (object_at image i) ≡ true
         → deferred image (region_of image (new_address image (object_at image i)))
         ≡ Some (new_address image (object_at image i)) }
@@ -57,7 +57,7 @@ pub fn update_then_clear()
     ensures late { (image : HeapImage) → HasLiveList image → (p : ℕ) → is_late_reference image p ≡ true
         → (d : ℕ) × (x : ℕ) × (deferred image d ≡ Some x) × (x < p)
         × (p ≤ x + references_of (moved_word image x)) }
-    ensures told { (image : HeapImage) → HasLiveList image → (p d x : ℕ) → deferred image d ≡ Some x → x < p
+    ensures are_late { (image : HeapImage) → HasLiveList image → (p d x : ℕ) → deferred image d ≡ Some x → x < p
         → p ≤ x + references_of (moved_word image x) → is_late_reference image p ≡ true }
     ensures same { (image : HeapImage) → HasLiveList image → (p : ℕ) → p < new_top image
         → is_late_reference image p ≡ false → moved_word image p ≡ compacted_word image p }

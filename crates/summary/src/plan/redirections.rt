@@ -19,7 +19,7 @@ use std::sync::Arc;
 /// A reference is 1 plus the address of a live object, or 0 for null. One that slides becomes the dead words of the dense
 /// prefix plus the live words below the reference itself, of which the object's first is the last. That number is never above
 /// the reference. Null and a reference into the dense prefix stay, and for them it is never below. So the new value is the
-/// lesser of the two, and no case is told apart.
+/// lesser of the two, and there are no cases.
 ///
 /// A contract sees the image that the redirections were made of, as it was then.
 pub(crate) struct Redirections {

@@ -6,7 +6,7 @@ ghost use Rattle.object_heap.specs.HeapImage.{region_count};
 ghost use Rattle.summary.specs.NewAddresses.{prefix_end};
 ghost use Rattle.summary.specs.RegionData.{region_data, source};
 ghost use Rattle.summary.specs.Layout.{placed_region};
-ghost use Rattle.summary.specs.Sources.{StartsOnly, told_region};
+ghost use Rattle.summary.specs.Sources.{StartsOnly, region_so_far};
 
 use crate::region_row::RegionRow;
 use heap_image::Image;
@@ -28,7 +28,7 @@ pub fn set_sources(image: &Image, prefix: u64, regions: &mut [RegionRow])
 fn started_by(image: &Image, prefix: u64, s: u32, region: &RegionRow) -> Option<u64>
     requires prefix { prefix ≡ prefix_end image.now }
     requires inside { s < region_count image.now }
-    requires region { told_region image.now s s ≡ region.now }
+    requires region { region_so_far image.now s s ≡ region.now }
     ensures { MatchOption result ((d : ℕ) → source image.now d ≢ Some s) (StartsOnly image.now s) }
 {
     let region_words = image.region_words();

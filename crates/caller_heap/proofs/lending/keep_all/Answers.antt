@@ -1,6 +1,6 @@
 use Rattle.std.proofs.Common.{◌≡◌, ℕ, ◌+◌, ◌-◌, ◌≤◌, Bool, List, ◌++◌, length, get_or, take, drop, set, map, vec_len, sym, ◌∙◌, ap, subst, arith}
 use Rattle.std.proofs.lemmas.List.{take-take, take-set, length-set, get_or-take, get_or_push}
-use Rattle.caller_heap.specs.Lent.{Lent, told, held}
+use Rattle.caller_heap.specs.Lent.{Lent, content, held}
 use Rattle.caller_heap.proofs.Lemmas.Lending.{kept_more, same_told}
 use Rattle.caller_heap.proofs.lending.keep_all.Goals as goal
 
@@ -25,8 +25,8 @@ loop-region-preserved c =
     let long : length now ≡ length before = so_far.long in
     let is : get_or all n region ≡ region =
     sym (get_or-take k all n region (omega arith)) ∙ ap (λ xs. get_or xs n region) (sym so_far.out ∙ c.in-Some.ensures.items) ∙ get_or_push front region region n whole in
-    let rest : List (Bool × List ℕ) = map told (drop (vec_len c.args.regions) before) in
-    let kept : map told (drop (n + 1) now) ≡ map held (drop (n + 1) all) ++ rest = subst (λ m. map told (drop m now) ≡ map held (drop m all) ++ rest) (sym left) so_far.kept in
+    let rest : List (Bool × List ℕ) = map content (drop (vec_len c.args.regions) before) in
+    let kept : map content (drop (n + 1) now) ≡ map held (drop (n + 1) all) ++ rest = subst (λ m. map content (drop m now) ≡ map held (drop m all) ++ rest) (sym left) so_far.kept in
     record {
       out = c.in-Some.ensures.rest ∙ ap (take (k - 1)) so_far.out ∙ take-take (k - 1) k all (omega arith) ∙ ap (λ m. take m all) before_it;
       few = omega arith;
@@ -38,6 +38,6 @@ loop-region-preserved c =
           ∙ take-take n k before (omega arith);
       long = length-set now c.len-r.result new ∙ long;
       kept =
-          ap (λ m. map told (drop n (set now m new))) at
+          ap (λ m. map content (drop n (set now m new))) at
           ∙ kept_more now all region n new rest (omega arith) (omega arith) is (same_told new region c.in_default-keep.ensures.held.0 c.in_default-keep.ensures.held.1) kept;
     }

@@ -1,6 +1,6 @@
 use Rattle.std.proofs.Common.{◌≡◌, ◌≤◌, ◌++◌, take, drop, length, vec_len}
 use Rattle.std.specs.Prelude.{map}
-use Rattle.caller_heap.specs.Lent.{told, held}
+use Rattle.caller_heap.specs.Lent.{content, held}
 use Rattle.caller_heap.proofs.lending.keep_all.Given as goal
 
 -- the first regions are still out, and the others are back
@@ -10,7 +10,7 @@ invariant-loop-region l = record {
   few : vec_len l.regions ≤ vec_len l.fn.regions;
   front : take (vec_len l.regions) l.words ≡ take (vec_len l.regions) l.initial.words;
   long : length l.words ≡ length l.initial.words;
-  kept : map told (drop (vec_len l.regions) l.words) ≡ map held (drop (vec_len l.regions) l.fn.regions.items) ++ map told (drop (vec_len l.fn.regions) l.initial.words);
+  kept : map content (drop (vec_len l.regions) l.words) ≡ map held (drop (vec_len l.regions) l.fn.regions.items) ++ map content (drop (vec_len l.fn.regions) l.initial.words);
 }
 
 abbrev pub decreases-loop-region : goal.decreases-loop-region

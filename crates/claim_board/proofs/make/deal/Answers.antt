@@ -32,5 +32,5 @@ returns c =
       (let z = p.len in let y = i.2 in omega arith),
       subst (ArePassesFrom c.args.words.now.table_id 0) (sym p.items)
           (passes_push c.args.words.now.table_id 0 c.loop.passes.items _ (vec_len c.loop.passes) at i.3
-          (new_pass c.args.words.now.table_id (vec_len c.loop.passes) c.loop.place.table_id c.loop.place.me.0 i.0 (ap (λ m. m.0) i.1 ∙ ap (λ n. record { told = []; holds = Rattle.claim_board.specs.Views.fresh (vec_len c.loop.passes) (suc n) }) none))),
+          (new_pass c.args.words.now.table_id (vec_len c.loop.passes) c.loop.place.table_id c.loop.place.me.0 i.0 (ap (λ m. m.0) i.1 ∙ ap (λ n. record { note = []; holds = Rattle.claim_board.specs.Views.fresh (vec_len c.loop.passes) (suc n) }) none))),
     )

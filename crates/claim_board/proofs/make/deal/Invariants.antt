@@ -6,6 +6,6 @@ use Rattle.claim_board.proofs.make.deal.Given as goal
 abbrev pub invariant-loop : goal.invariant-loop
 invariant-loop l =
     (l.place.table_id ≡ l.words.table_id)
-    × (l.place.me ≡ (record { told = []; holds = fresh (vec_len l.passes) (suc (l.workers - l.counter)) }, []))
+    × (l.place.me ≡ (record { note = []; holds = fresh (vec_len l.passes) (suc (l.workers - l.counter)) }, []))
     × (vec_len l.passes + 1 ≡ l.counter)
     × ArePasses l.words.table_id l.passes.items

@@ -12,5 +12,5 @@ load-requires c =
     let below : 0 < suc (region_count k.moves) = omega arith in (
       c.requires.seat,
       (let z = c.requires.size in omega arith),
-      takes k n c.args.seat.now.id 0 c.args.seat.now.me (step n 0 0 0 none) below c.requires.told c.requires.longer,
+      takes k n c.args.seat.now.id 0 c.args.seat.now.me (step n 0 0 0 none) below c.requires.note c.requires.longer,
     )

@@ -13,5 +13,5 @@ load-requires g c =
     let below : 0 < suc (region_count k.moves) = omega arith in (
       c.requires.seat,
       (let z = c.requires.size in omega arith),
-      rw (a.0, a.1) (sees_all k n c.args.seat.now.id 0 c.args.seat.now.me (step n 0 0 0 none) below c.requires.told),
+      rw (a.0, a.1) (sees_all k n c.args.seat.now.id 0 c.args.seat.now.me (step n 0 0 0 none) below c.requires.note),
     )

@@ -42,27 +42,27 @@ pub returns-then-unsettled-eq0 : goal.returns-then-unsettled-eq0
 returns-then-unsettled-eq0 c =
     let y = c.survey-unsettled.ensures in
     let i = c.loop-pass.invariant.3 in
-    let told = c.survey-unsettled.new.seat.me.0.told in
+    let note = c.survey-unsettled.new.seat.me.0.note in
     let none : length c.loop-pass.passes.items ≡ 0 = (let x = c.in_default-pop.ensures.cases in let o = c.loop-pass.passes.ok in omega arith) in
     let n = c.args.self.table.shared.key.workers in
     let full : vec_len c.args.passes ≡ n = (let a = c.if-count-self.true in let b = c.args.self.manned in let d = c.len-count.ensures in omega arith) in (
-      told,
+      note,
       y.0,
-      all_stand n told c.loop-pass.place.me.0.holds c.args.passes.items c.loop-pass.passes.items i.0 none i.1 i.2 y.1,
+      all_stand n note c.loop-pass.place.me.0.holds c.args.passes.items c.loop-pass.passes.items i.0 none i.1 i.2 y.1,
       ((λ e. (full, sym y.2 ∙ c.if-unsettled-eq0.true)), (λ e. refl)),
-      ap (λ v. v.me.0.told) c.of.ensures,
+      ap (λ v. v.me.0.note) c.of.ensures,
     )
 
 pub returns : goal.returns
 returns c =
     let y = c.survey-unsettled.ensures in
     let i = c.loop-pass.invariant.3 in
-    let told = c.survey-unsettled.new.seat.me.0.told in
+    let note = c.survey-unsettled.new.seat.me.0.note in
     let none : length c.loop-pass.passes.items ≡ 0 = (let x = c.in_default-pop.ensures.cases in let o = c.loop-pass.passes.ok in omega arith) in
     let n = c.args.self.table.shared.key.workers in (
-      told,
+      note,
       y.0,
-      all_stand n told c.loop-pass.place.me.0.holds c.args.passes.items c.loop-pass.passes.items i.0 none i.1 i.2 y.1,
+      all_stand n note c.loop-pass.place.me.0.holds c.args.passes.items c.loop-pass.passes.items i.0 none i.1 i.2 y.1,
       (
         (λ e. absurd (true≢false (sym e))),
         (λ h. elim c.else-count-self.branch [

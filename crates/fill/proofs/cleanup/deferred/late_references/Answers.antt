@@ -15,11 +15,11 @@ returns c =
     let header = c.moved_objects.ensures.header image s o.0 o.1 in
     record {
       region = o.4;
-      header = header_not_before image s d x c.requires.begins (c.update_then_clear.ensures.told image s)
+      header = header_not_before image s d x c.requires.begins (c.update_then_clear.ensures.are_late image s)
           (ap (is_late_reference image) (sym o.3) ∙ c.update_then_clear.ensures.header image s o.0 o.1);
       once = λ p h. (let both = behind-parts image x p h in not_before image s d x c.requires.begins (c.update_then_clear.ensures.once image s) p both.0 both.1);
       cut = cut_behind image d x c.requires.begins o.4 (λ e y h. (c.one_deferred_object.ensures.object image s e y h).4)
-          (header_not_before image s d x c.requires.begins (c.update_then_clear.ensures.told image s)
+          (header_not_before image s d x c.requires.begins (c.update_then_clear.ensures.are_late image s)
           (ap (is_late_reference image) (sym o.3) ∙ c.update_then_clear.ensures.header image s o.0 o.1));
       sound = λ p h. (let both = behind-parts image x p h in late_sound image s d x c.requires.begins o.0 o.1 o.3 header o.2 (λ f few. c.moved_objects.ensures.reference image s o.0 f o.1 few) p both.0 both.1);
     }

@@ -25,6 +25,6 @@ returns c =
       words = c.loop-d.invariant.words
           ∙ ap (λ n. words_from image first n (is_late_before image c.loop-d.d)) same
           ∙ ap (λ d. words_from image first count (is_late_before image d)) last
-          ∙ part_late image first count (λ p. c.update_then_clear.ensures.late image sound p) (λ p. c.update_then_clear.ensures.told image sound p)
+          ∙ part_late image first count (λ p. c.update_then_clear.ensures.late image sound p) (λ p. c.update_then_clear.ensures.are_late image sound p)
           (λ d x h. (c.one_deferred_object.ensures.object image sound d x h).4);
     }

@@ -28,7 +28,7 @@ moved_part c blocks is =
       begins = λ p l. refl;
       ends = λ p l. ap (λ n. is_late_before image n p) (zero-add (length blocks)) ∙ false_from_ne_true (is_late_before image (length blocks) p) (λ h.
           let at = late-parts image (length blocks) p h in
-          let below = c.update_then_clear.ensures.below image sound p (c.update_then_clear.ensures.told image sound p at.0 at.1 at.3 at.4 at.5) in
+          let below = c.update_then_clear.ensures.below image sound p (c.update_then_clear.ensures.are_late image sound p at.0 at.1 at.3 at.4 at.5) in
           let top = c.regions_to_fill.ensures.top image sound in
           let all : start_of image (0 + length blocks) ≡ heap_words image = ap (start_of image) (zero-add (length blocks) ∙ long) ∙ all_regions image valid in
           omega arith);

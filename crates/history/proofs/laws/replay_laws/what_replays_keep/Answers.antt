@@ -2,4 +2,4 @@ use Rattle.history.proofs.Lemmas.Replays.{replay_legal, replay_state, one_replay
 use Rattle.history.proofs.laws.replay_laws.what_replays_keep.Goals as goal
 
 pub returns : goal.returns
-returns c = record { legal = replay_legal; state = replay_state; one = one_replay; refused = refused_not_taken; once = refused_once; told = told_calls }
+returns c = record { legal = replay_legal; state = replay_state; one = one_replay; refused = refused_not_taken; once = refused_once; calls = told_calls }

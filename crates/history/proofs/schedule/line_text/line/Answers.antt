@@ -1,7 +1,7 @@
 use Rattle.std.proofs.Common.{◌∷◌, ◌++◌, ap, ◌∙◌, arith}
 use Rattle.std.proofs.lemmas.Bool.{both_ways}
-use Rattle.scheduler.specs.Schedule.{is_event, is_told_reply}
-use Rattle.history.specs.ScheduleText.{told_text}
+use Rattle.scheduler.specs.Schedule.{is_event, is_line_reply}
+use Rattle.history.specs.ScheduleText.{line_reply_text}
 use Rattle.scheduler.specs.declared.event.Event.{Event}
 use Rattle.history.proofs.Lemmas.LineTexts.{text_line, behind_worker, behind_event, reply_word}
 use Rattle.history.proofs.schedule.line_text.line.Goals as goal
@@ -13,7 +13,7 @@ returns-in_err-event c =
     (λ l rest fits same.
     let f = text_line c.args.workers l fits in
     let a = behind_worker c.args.workers c.in_ok-worker.worker l c.args.bytes.now c.in_ok-worker.after_worker.now rest c.requires f c.in_ok-worker.ensures.0 c.in_ok-worker.ensures.1 same in
-    c.in_err-event.ensures l.event (told_text l.reply ++ 10 ∷ rest) f.numbers a.1)
+    c.in_err-event.ensures l.event (line_reply_text l.reply ++ 10 ∷ rest) f.numbers a.1)
 
 pub returns-in_err-reply : goal.returns-in_err-reply
 returns-in_err-reply c =
@@ -22,7 +22,7 @@ returns-in_err-reply c =
     let f = text_line c.args.workers l fits in
     let a = behind_worker c.args.workers c.in_ok-worker.worker l c.args.bytes.now c.in_ok-worker.after_worker.now rest c.requires f c.in_ok-worker.ensures.0 c.in_ok-worker.ensures.1 same in
     let b = behind_event c.args.workers c.in_ok-event.event l c.in_ok-worker.after_worker.now c.in_ok-event.after_event.now rest f c.in_ok-event.ensures.0 c.in_ok-event.ensures.1 a.1 in
-    c.in_err-reply.ensures (told_text l.reply) rest b.1)
+    c.in_err-reply.ensures (line_reply_text l.reply) rest b.1)
 
 pub returns-in_err-reply-2 : goal.returns-in_err-reply-2
 returns-in_err-reply-2 c =
@@ -32,7 +32,7 @@ returns-in_err-reply-2 c =
     let a = behind_worker c.args.workers c.in_ok-worker.worker l c.args.bytes.now c.in_ok-worker.after_worker.now rest c.requires f c.in_ok-worker.ensures.0 c.in_ok-worker.ensures.1 same in
     let b = behind_event c.args.workers c.in_ok-event.event l c.in_ok-worker.after_worker.now c.in_ok-event.after_event.now rest f c.in_ok-event.ensures.0 c.in_ok-event.ensures.1 a.1 in
     let word = reply_word c.args.workers l c.in_ok-reply.reply.now c.in_ok-event.after_event.now c.in_ok-reply.rest.now rest f c.in_ok-reply.ensures.0 c.in_ok-reply.ensures.1 b.1 in
-    c.in_err-reply-2.ensures l.reply (ap (λ (e : Event). is_told_reply e l.reply) b.0 ∙ f.reply) word)
+    c.in_err-reply-2.ensures l.reply (ap (λ (e : Event). is_line_reply e l.reply) b.0 ∙ f.reply) word)
 
 pub returns-then-worker-workers : goal.returns-then-worker-workers
 returns-then-worker-workers c = λ l rest fits same.

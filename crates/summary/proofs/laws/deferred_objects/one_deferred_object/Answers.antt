@@ -2,4 +2,4 @@ use Rattle.summary.proofs.laws.deferred_objects.one_deferred_object.Goals as goa
 use Rattle.summary.proofs.Lemmas.Objects.{deferred-one, deferred-told, deferred-Some, deferred-None}
 
 pub returns : goal.returns
-returns c = record { one = deferred-one; told = deferred-told; object = deferred-Some; none = deferred-None }
+returns c = record { one = deferred-one; address = deferred-told; object = deferred-Some; none = deferred-None }
