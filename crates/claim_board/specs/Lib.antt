@@ -3,7 +3,7 @@ pub mod Steps
 pub mod Rule
 pub mod Boards
 pub mod Callers
-pub mod Told
+pub mod Notes
 pub mod Finishes
 pub mod Tickets
 pub mod Drains

@@ -1,5 +1,5 @@
 //! A collection from file to file, with its schedule or without.
-ghost use Rattle.std.specs.Prelude.{◌≡◌, ◌⊎◌, IfOk, string_bytes};
+ghost use Rattle.std.specs.Prelude.{◌≡◌, IfOk, string_bytes};
 ghost use Rattle.collection_commands.specs.Figures.{IsFigures};
 
 use crate::collect::collect_into;
@@ -9,12 +9,11 @@ use crate::out_file::OutFile;
 use crate::record::record_into;
 use crate::timed_gate::TimedGate;
 use crate::workers::Workers;
-use collector::Gate;
 use command_files::{Output, SystemFile, WorkDone, both_ended, ended, failed};
 use command_host::ImageFile;
 use command_support::{Trouble, Watched};
 use command_times::{Stopwatch, TimedIntake, TimedOutlet};
-use heap_image::{Fault, Intake, Outlet, ToWrite};
+use heap_image::{Fault, Intake, ToWrite};
 use std::fs::OpenFile;
 use std::io::{Seek, Write};
 use std::os::unix::fs::FileExt;

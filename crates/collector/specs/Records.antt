@@ -8,11 +8,7 @@ use Rattle.fill.specs.FillFaults.{IsOverwritten}
 abbrev pub IsOfSchedule : Fault → Type 0
 IsOfSchedule fault = (line : ℕ) × (fault ≡ Schedule line)
 
--- The gate refused, which it does only if it may; a cell, a queue or the recorder's board contradicts the order of
--- work; memory for a line ran out; or a line is at fault.
-abbrev pub IsLossBy : Type 0 → Fault → Type 0
-IsLossBy may_refuse fault = ((fault ≡ Gate) × may_refuse) ⊎ (IsOverwritten fault ⊎ ((fault ≡ Memory) ⊎ IsOfSchedule fault))
-
--- the same for any gate
+-- The gate refused; a cell, a queue or the recorder's board contradicts the order of work; memory for a line ran out; or
+-- a line is at fault.
 abbrev pub IsLoss : Fault → Type 0
-IsLoss fault = IsLossBy (Unit {0}) fault
+IsLoss fault = (fault ≡ Gate) ⊎ (IsOverwritten fault ⊎ ((fault ≡ Memory) ⊎ IsOfSchedule fault))

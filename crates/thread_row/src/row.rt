@@ -1,8 +1,7 @@
 //! Work on a list in parts, each in a thread that the caller starts.
-ghost use Rattle.std.specs.Prelude.{◌≡◌, ℕ, ◌+◌, ◌^◌, ◌<◌, ◌≤◌, length, slice_index_or};
+ghost use Rattle.std.specs.Prelude.{◌+◌, ◌^◌, ◌<◌, length};
 ghost use Rattle.std.specs.Fork.{AcceptsAt, ChangesAt, AcceptsEach, ChangesEach};
 ghost use Rattle.thread_row.specs.Parts.{HoldFrom, BecomeFrom};
-ghost use denote.Param.Send.{IsSync, IsSend};
 
 use std::thread;
 use std::thread::{Threads, join, join_mut};

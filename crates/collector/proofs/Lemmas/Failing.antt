@@ -1,12 +1,11 @@
 -- The causes of a collection's fault.
-use Rattle.std.proofs.Common.{◌≡◌, ℕ, ◌<◌, List, ◌++◌, length, take, get_or, sym, ap, ◌∙◌, subst, inl, inr, ◌⊎◌, Err, arith}
+use Rattle.std.proofs.Common.{◌≡◌, ℕ, ◌<◌, List, ◌++◌, length, take, get_or, sym, ap, ◌∙◌, subst, inl, inr, Err, arith}
 use Rattle.std.specs.Prelude.{All, IfErr}
 use Rattle.std.proofs.Math.Seq.{take-append_seam}
 use Rattle.object_heap.specs.HeapImage.{HeapImage}
 use Rattle.image_streams.specs.declared.fault.Fault.{Fault}
 use Rattle.image_streams.specs.declared.fault.Fault.TheVariants.{Overwritten, Gate}
 use Rattle.summary.specs.RegionData.{fill_count}
-use Rattle.fill.specs.FillFaults.{IsOverwritten}
 use Rattle.collector.specs.declared.workers.worker.Worker.{Worker}
 use Rattle.collector.specs.declared.workers.worker.Halt.TheVariants.{Failed}
 use Rattle.collector.specs.Halts.{MayHalt, MayRefuse, IsLostTo}
@@ -26,11 +25,12 @@ cause_of {S = S} may_fail may_refuse regions workers fault causes failed =
     subst (λ e. IfErr e (MayHalt may_fail may_refuse regions)) failed.4
     (subst (λ (w : Worker S). IfErr w.end (MayHalt may_fail may_refuse regions)) failed.3 (causes failed.0 failed.1 failed.2))
 
--- if it is the gate's, the gate may refuse
-pub refused_by : (may_refuse : ℕ → ℕ → Type 0) (workers : ℕ) (image : HeapImage) (fault : Fault) → fault ≡ Gate
-    → IsOverwritten fault ⊎ ((fault ≡ Gate) × MayRefuse may_refuse workers image) → MayRefuse may_refuse workers image
-refused_by may_refuse workers image fault gate (inl old) = absurd (let f : Gate ≡ Overwritten old.0 = sym gate ∙ old.1 in cc)
-refused_by may_refuse workers image fault gate (inr refused) = refused.1
+-- if it is the gate's, and no fault of the desk, the gate may refuse
+pub refused_by : (may_fail : Fault → Type 0) (may_refuse : ℕ → ℕ → Type 0) (workers : ℕ) (image : HeapImage) (fault : Fault) → fault ≡ Gate
+    → (may_fail fault → ⊥) → IsLostTo may_fail may_refuse workers image fault → MayRefuse may_refuse workers image
+refused_by may_fail may_refuse workers image fault gate not (inl (inl own)) = absurd (not own)
+refused_by may_fail may_refuse workers image fault gate not (inl (inr over)) = absurd (let f : Gate ≡ Overwritten over.0 = sym gate ∙ over.1 in cc)
+refused_by may_fail may_refuse workers image fault gate not (inr refused) = refused.1
 
 -- what halts worker 0 loses a collection by one worker
 pub lost_alone : (may_fail : Fault → Type 0) (may_refuse : ℕ → ℕ → Type 0) (image : HeapImage) (fault : Fault)

@@ -1,10 +1,9 @@
 //! A collection in the caller's thread.
-ghost use Rattle.std.specs.Prelude.{◌≡◌, ◌⊎◌, All, IfOk, IfErr, Err};
+ghost use Rattle.std.specs.Prelude.{◌≡◌, ◌⊎◌, IfOk, IfErr, Err};
 ghost use Rattle.summary.specs.Compaction.{compact};
 ghost use Rattle.scheduler.specs.ImageMoves.{image_table};
 ghost use Rattle.scheduler.specs.History.{IsLegal};
 ghost use Rattle.scheduler.specs.Whole.{HasEachOnce};
-ghost use Rattle.claim_board.specs.Boards.{worker_count, identity, board_of};
 ghost use Rattle.claim_board.specs.Finishes.{history};
 ghost use Rattle.fill.specs.FillFaults.{IsOverwritten};
 ghost use Rattle.collector.specs.Halts.{MayRefuse};

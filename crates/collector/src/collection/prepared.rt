@@ -1,13 +1,12 @@
 ghost use Rattle.std.specs.Prelude.{◌≡◌, ◌<◌, ◌↔◌, ◌⊎◌, ℕ, All, vec_len, IfOk, IfErr, IfSome, slice_index_or, length, None, Err};
-ghost use Rattle.summary.specs.Compaction.{compact};
 ghost use Rattle.collector.specs.Halts.{IsLostTo, met_fault};
-ghost use Rattle.collector.specs.Collections.{figures_of, AreNoneOrTooMany};
+ghost use Rattle.collector.specs.Collections.{AreNoneOrTooMany};
 ghost use Rattle.collector.specs.declared.workers.worker.Halt.TheVariants.{Failed};
 
 use super::collection_desk::CollectionDesk;
-use super::ended::{Ended, Worked};
+use super::ended::Ended;
 use super::equipment::Equipment;
-use super::hands::{Alone, Hands, Many};
+use super::hands::Hands;
 use crate::gate::Gate;
 use crate::workers::crew::{Crew, work_all};
 use crate::workers::staff::Staff;
@@ -120,7 +119,11 @@ where
     }
 
     /// Lets worker 0 fill all regions in the caller's thread. Returns the fault that it met.
-    pub(crate) fn run_alone<G: Gate, W: RetryPolicy>(self, gate: &G, policy: &W) -> Result<Ended<D>, Fault>
+    pub(crate) fn run_alone<G: Gate, W: RetryPolicy>(
+        self,
+        gate: &G,
+        policy: &W,
+    ) -> Result<Ended<D>, Fault>
     where
         D: Desk<W>,
         requires seats { All (λ w. D.serves self.equipment.desk w.seat) self.equipment.staff.workers.items }

@@ -1,11 +1,10 @@
-ghost use Rattle.std.specs.Prelude.{◌≡◌, ◌<◌, ◌↔◌, ◌⊎◌, All, vec_len, IfOk, IfErr, Err};
+ghost use Rattle.std.specs.Prelude.{◌≡◌, ◌<◌, ◌↔◌, ◌⊎◌, IfOk, IfErr, Err};
 ghost use Rattle.image_streams.specs.declared.fault.Fault.TheVariants.{Memory};
 ghost use Rattle.summary.specs.Compaction.{compact};
 ghost use Rattle.history.specs.Record.{IsRecord};
-ghost use Rattle.claim_board.specs.Recorders.{worker_count};
 ghost use Rattle.collector.specs.Halts.{MayRefuse};
 ghost use Rattle.collector.specs.Collections.{figures_of, AreNoneOrTooMany, IfKept, IfLost};
-ghost use Rattle.collector.specs.Records.{IsLoss, IsLossBy, IsOfSchedule};
+ghost use Rattle.collector.specs.Records.{IsLoss, IsOfSchedule};
 ghost use Rattle.collector.specs.declared.outcome.Refusal.TheVariants.{Kept, Lost};
 
 use super::hands::Many;

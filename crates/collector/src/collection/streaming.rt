@@ -3,7 +3,7 @@ ghost use Rattle.std.specs.Io.KnownBytes.{Appends};
 ghost use Rattle.object_heap.specs.HeapImage.{HeapImage};
 ghost use Rattle.heap_image.specs.ImageText.{text};
 ghost use Rattle.summary.specs.Compaction.{compact};
-ghost use Rattle.collector.specs.Collections.{figures_of, fault_of, AreNoneOrTooMany};
+ghost use Rattle.collector.specs.Collections.{figures_of, AreNoneOrTooMany};
 ghost use Rattle.heap_image.specs.Reading.{IsRead};
 ghost use Rattle.heap_image.specs.Refusals.{IsOfReading};
 ghost use Rattle.collector.specs.Streams.{IsTextBegun, IsFirstOfBytes, MayRefuseRead};

@@ -207,20 +207,12 @@ impl<'a, D: Desk<W>, G: Gate, W: RetryPolicy> Crew<'a, D, G, W> {
         let fill_regions = self.survey.plan().fill_regions();
         let ready = &mut worker.ready;
         let mut refused = None;
-        let mut queue = |source: u32| {
+        let queue = |source: u32| {
             if source < fill_regions && !ready.push(source) {
                 refused = Some(source);
             }
         };
-        let (done, _placed) = fill_region(
-            self.desk,
-            self.cells,
-            self.survey,
-            &mut worker.seat,
-            ticket,
-            &mut queue,
-            self.wait,
-        )?;
+        let done = self.fill_region(&mut worker.seat, ticket, queue)?;
         match refused {
             Some(source) => {
                 done.give_up();
@@ -228,6 +220,33 @@ impl<'a, D: Desk<W>, G: Gate, W: RetryPolicy> Crew<'a, D, G, W> {
             }
             None => Ok(done),
         }
+    }
+
+    /// Fills the region of a ticket. Calls `on_last` with each region that has no pending readers any more.
+    fn fill_region<F: FnMut(u32)>(
+        &self,
+        seat: &mut D::Seat,
+        ticket: Ticket,
+        mut on_last: F,
+    ) -> Result<Done, Fault>
+        requires seat { D.serves self.now.desk.now seat.old }
+        requires callable { F.IsAlwaysCallable on_last }
+        requires unused { IsUnused ticket }
+        requires ticket { D.tells → IsTicketOf (D.moves self.now.desk.now) (D.caller seat.old) ticket }
+        ensures seat { D.serves self.now.desk.now seat.new }
+        ensures done { IfOk result (λ done. D.tells → IsDoneOf (D.caller seat.new) done) }
+        ensures fault { IfErr result (IsFaultOf D.may_fail) }
+    {
+        let (done, _placed) = fill_region(
+            self.desk,
+            self.cells,
+            self.survey,
+            seat,
+            ticket,
+            &mut on_last,
+            self.wait,
+        )?;
+        Ok(done)
     }
 }
 

@@ -1,23 +1,27 @@
-use Rattle.std.proofs.Common.{◌≡◌, ℕ, subst, ◌∙◌}
+use Rattle.std.proofs.Common.{◌≡◌, ℕ, subst}
+use Rattle.std.proofs.lemmas.Result.{err_from_is_err_and}
 use Rattle.object_heap.specs.HeapImage.{HeapImage}
 use Rattle.image_streams.specs.declared.fault.Fault.TheVariants.{Gate}
-use Rattle.claim_board.specs.Recorders.{worker_count}
+use Rattle.claim_board.specs.Recorders.{IsSomeRefusal}
 use Rattle.collector.specs.Halts.{MayRefuse}
-use Rattle.collector.proofs.Lemmas.Losses.{loss, refused_by_gate}
+use Rattle.collector.proofs.Lemmas.Failing.{refused_by}
+use Rattle.collector.proofs.Lemmas.Losses.{not_of_recorder, not_of_schedule}
 use Rattle.collector.proofs.collection.recording.record.Goals as goal
 
-pub returns-in-Err-recorded-clause-lost : goal.returns-in-Err-recorded-clause-lost
-returns-in-Err-recorded-clause-lost g c =
-    let may : ℕ → ℕ → Type 0 = g.G.Gate.may_refuse c.args.gate.now in
-    let equipment = c.in-Ok.prepared.equipment in
-    loss (MayRefuse may (worker_count equipment.desk) equipment.survey) c.in-Err-recorded.fault c.in-Err-recorded.ensures.loss
-
-pub returns-in-Err-recorded-clause-gate : goal.returns-in-Err-recorded-clause-gate
-returns-in-Err-recorded-clause-gate g c is =
+pub returns-in_err-ended-clause-gate : goal.returns-in_err-ended-clause-gate
+returns-in_err-ended-clause-gate g c is =
     let may : ℕ → ℕ → Type 0 = g.G.Gate.may_refuse c.args.gate.now in
     let equipment = c.in-Ok.prepared.equipment in
     let made = c.in-Ok.ensures in
-    let gate : c.in-Err-recorded.fault ≡ Gate = cc in
-    let workers : worker_count equipment.desk ≡ c.args.workers = equipment.seats ∙ made.workers in
-    let refused = refused_by_gate (MayRefuse may (worker_count equipment.desk) equipment.survey) c.in-Err-recorded.fault gate c.in-Err-recorded.ensures.loss in
-    subst (λ (image : HeapImage). MayRefuse may c.args.workers image) made.survey (subst (λ (n : ℕ). MayRefuse may n equipment.survey) workers refused)
+    let fault = c.in_err-ended.field-0.0 in
+    let p = err_from_is_err_and c.from_residual.result c.from_residual.ensures.1 in
+    let gate : fault ≡ Gate = cc (p.1, p.2, is) in
+    let refused = refused_by IsSomeRefusal may equipment.staff.workers.len equipment.survey fault gate (not_of_recorder fault gate) c.in_err-ended.ensures.fault in
+    subst (λ (image : HeapImage). MayRefuse may c.args.workers image) made.survey (subst (λ (n : ℕ). MayRefuse may n equipment.survey) made.workers refused)
+
+pub returns-in_err-schedule-clause-gate : goal.returns-in_err-schedule-clause-gate
+returns-in_err-schedule-clause-gate g c is =
+    let fault = c.in_err-schedule.field-0.0 in
+    let p = err_from_is_err_and c.from_residual-in_err-schedule.result c.from_residual-in_err-schedule.ensures.1 in
+    let gate : fault ≡ Gate = cc (p.1, p.2, is) in
+    absurd (not_of_schedule fault gate c.in_err-schedule.ensures.fault)

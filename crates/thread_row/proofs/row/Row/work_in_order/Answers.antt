@@ -1,6 +1,5 @@
-use Rattle.std.proofs.Common.{◌≡◌, ◌+◌, length, slice_index_or, subst}
+use Rattle.std.proofs.Common.{◌+◌, slice_index_or, subst}
 use Rattle.std.specs.Fork.{ChangesAt}
-use Rattle.thread_row.specs.Parts.{BecomeFrom}
 use Rattle.thread_row.proofs.row.Row.work_in_order.Goals as goal
 
 -- Each place was changed by a call for the place that it has in the whole.

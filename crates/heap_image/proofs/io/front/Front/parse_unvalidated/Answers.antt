@@ -3,8 +3,8 @@ use Rattle.object_heap.specs.Version.{magic}
 use Rattle.heap_image.proofs.Lemmas.ReadBack.{front_of_bytes, magic_found}
 use Rattle.heap_image.proofs.io.front.Front.parse_unvalidated.Goals as goal
 
-pub returns-clause-told : goal.returns-clause-told
-returns-clause-told c =
+pub returns-clause-fields : goal.returns-clause-fields
+returns-clause-fields c =
     let version = c.in-Some.version in
     let found = c.named_version.ensures in
     let magic_is : take 8 c.args.bytes.now ≡ magic version = magic_found c.args.bytes.now c.named_version.result version c.in-Some.is c.in-Some.ensures.version found.known in
