@@ -34,7 +34,7 @@ IsGone w = w.0 ≡ false
 abbrev pub content : Lent → Bool × List ℕ
 content w = (w.0, w.3)
 
--- what is content of words that are held
+-- the content of words that are held
 abbrev pub held : List ℕ → Bool × List ℕ
 held block = (true, block)
 

@@ -7,7 +7,7 @@ use Rattle.std.proofs.lemmas.List.Elements.{All-head, All-tail, All-push}
 use Rattle.std.specs.Prelude.{All, map}
 use Rattle.caller_heap.specs.Lent.{Lent, IsHeld, IsGone, content, held, words_in}
 
--- words that are held are content by what they are
+-- the content of words that are held is what they are
 pub held_told : (words : List Lent) → All IsHeld words → map held (map words_in words) ≡ map content words
 held_told [] h = refl
 held_told (w ∷ words) h =

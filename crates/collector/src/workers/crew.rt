@@ -59,7 +59,7 @@ impl<'a, D: Desk<W>, G: Gate, W: RetryPolicy> Crew<'a, D, G, W> {
         }
     }
 
-    /// Takes turns until all regions to fill are settled.
+    /// Fills regions until all are settled, and backs off while none is ready.
     pub(crate) fn fill_regions(&self, number: u32, worker: &mut Worker<D::Seat>) -> Result<(), Halt>
         requires number { number < length self.now.thieves.now }
         requires seat { D.serves self.now.desk.now worker.old.seat }
@@ -68,7 +68,15 @@ impl<'a, D: Desk<W>, G: Gate, W: RetryPolicy> Crew<'a, D, G, W> {
     {
         let backoff = Backoff::new();
         for _ in 0..u64::MAX {
-            if self.turn(number, worker, &backoff)? {
+            self.go_on()?;
+            let all_settled = match self.next_region(number, worker) {
+                Some(region) => {
+                    backoff.reset();
+                    self.visit(number, worker, region)?
+                }
+                None => self.poll_or_back_off(worker, &backoff)?,
+            };
+            if all_settled {
                 return Ok(());
             }
         }
@@ -112,23 +120,16 @@ impl<'a, D: Desk<W>, G: Gate, W: RetryPolicy> Crew<'a, D, G, W> {
         }
     }
 
-    /// Fills a region, or backs off if none is ready. Returns whether all regions to fill are settled.
-    fn turn(
+    /// Returns whether all regions to fill are settled. Backs off if they aren't.
+    fn poll_or_back_off(
         &self,
-        number: u32,
         worker: &mut Worker<D::Seat>,
         backoff: &Backoff,
-    ) -> Result<bool, Halt>
-        requires number { number < length self.now.thieves.now }
-        requires seat { D.serves self.now.desk.now worker.old.seat }
+    ) -> Result<bool, Fault>
+        requires { D.serves self.now.desk.now worker.old.seat }
         ensures seat { D.serves self.now.desk.now worker.new.seat }
-        ensures halt { IfErr result (MayHalt D.may_fail (G.may_refuse self.now.gate.now number) (fill_count self.now.survey.now)) }
+        ensures fault { IfErr result D.may_fail }
     {
-        self.go_on()?;
-        if let Some(region) = self.next_region(number, worker) {
-            backoff.reset();
-            return self.visit(number, worker, region);
-        }
         let all_settled = self.desk.poll(&mut worker.seat, self.wait)?;
         if !all_settled {
             self.wait.back_off(backoff);
