@@ -9,23 +9,20 @@ usage: tests/build/build_library.py
 """
 import os
 import pathlib
-import shutil
 import subprocess
 import sys
+
+from statements import load_rt, mark
 
 TOP = pathlib.Path(__file__).resolve().parents[2]
 
 
 def mark_libraries() -> None:
     """Marks each library that has no mark."""
-    sys.path.insert(0, str(pathlib.Path(shutil.which("rt") or "rt").resolve().parent))
-    import rtlib
-
-    for crate in rtlib.crates_below(str(TOP)):
+    for crate in load_rt().crates_below(str(TOP)):
         folder = pathlib.Path(crate.folder, "out", "rlib")
-        mark = folder / "stamp"
-        if folder.is_dir() and not mark.exists():
-            mark.write_text(crate.stamp())
+        if folder.is_dir() and not (folder / "stamp").exists():
+            mark(crate)
 
 
 def main() -> int:

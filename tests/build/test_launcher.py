@@ -90,6 +90,8 @@ class Launcher:
         for it in ("pcompact", "prove", "sources.sh", "HANDLES", "crates.txt"):
             shutil.copy(TOP / it, copy)
         shutil.copytree(TOP / "c", copy / "c")
+        (copy / "tests" / "build").mkdir(parents=True)
+        shutil.copy(TOP / "tests" / "build" / "statements.py", copy / "tests" / "build")
         for crate in crate_names():
             (copy / "crates" / crate / "src").mkdir(parents=True)
             (copy / "crates" / crate / "src" / "lib.rt").write_text("//! A crate.\n")

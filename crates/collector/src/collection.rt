@@ -1,4 +1,9 @@
-ghost use Rattle.std.specs.Prelude.{◌≡◌, ◌↔◌, ◌⊎◌, All, IfOk, IfErr, Err};
+ghost use Rattle.std.specs.Prelude.{◌≡◌, ◌≢◌, ◌↔◌, ◌⊎◌, ℕ, IsTrue, All, IfOk, OnErr, IfErr, MatchResult, Err};
+ghost use Rattle.std.specs.Io.KnownBytes.{Appends};
+ghost use Rattle.object_heap.specs.HeapImage.{HeapImage};
+ghost use Rattle.heap_image.specs.ImageText.{text};
+ghost use Rattle.heap_image.specs.Reading.{IsRead};
+ghost use Rattle.heap_image.specs.Refusals.{IsOfReading};
 ghost use Rattle.summary.specs.Compaction.{compact};
 ghost use Rattle.scheduler.specs.ImageMoves.{image_table};
 ghost use Rattle.scheduler.specs.State.{AllAreSettled};
@@ -9,6 +14,7 @@ ghost use Rattle.claim_board.specs.Finishes.{history};
 ghost use Rattle.fill.specs.FillFaults.{IsOverwritten};
 ghost use Rattle.collector.specs.Halts.{MayRefuse};
 ghost use Rattle.collector.specs.Collections.{figures_of, AreNoneOrTooMany, IfKept, IfLost};
+ghost use Rattle.collector.specs.Streams.{IsTextBegun, IsFirstOfBytes, MayRefuseRead};
 ghost use Rattle.collector.specs.declared.outcome.Refusal.TheVariants.{Kept, Lost};
 
 pub(crate) mod alone;
@@ -22,20 +28,64 @@ mod reading;
 pub(crate) mod record_streaming;
 pub(crate) mod recording;
 mod redirect;
-pub(crate) mod streaming;
 
 use crate::gate::Gate;
-use crate::outcome::{Outcome, Refusal};
+use crate::outcome::{Figures, Outcome, Refusal};
 use crate::workers::start_line::StartLine;
 use claim_board::{Board, Finished, Pass};
 use ended::Worked;
 use hands::Many;
-use heap_image::{Fault, Image};
+use heap_image::{Fault, Image, Intake, Outlet, write_image_buffered};
 use prepared::Prepared;
+use reading::read_whole;
 use scheduler::{moves_are_lawful, settled_histories_have_each_once};
 use std::alloc::Global;
 use std::sync::Wait;
 use std::thread::Threads;
+
+/// Reads an image, compacts it as [`collect`] does, and writes the compaction.
+///
+/// Nothing is written before the collection has succeeded. Faults 1 to 10 and 17 are the first fault of the input,
+/// fault 13 means that a device has failed, and the others are those of `collect`. If writing fails with fault 13, a
+/// prefix of the text was written; after any other fault, nothing was.
+pub fn collect_stream<R: Intake, O: Outlet, G: Gate + Sync, T: Threads + Sync, W: Wait + Sync>(
+    alloc: Global,
+    reader: &mut R,
+    writer: &mut O,
+    workers: u32,
+    gate: &G,
+    threads: &T,
+    wait: &W,
+) -> Result<Figures, Fault>
+    // All of the input was read, the text of an image, and the text of its compaction was written.
+    ensures text { IfOk result (λ figures. (image : HeapImage)
+        × IsRead image (R.left reader.old) (R.left reader.new)
+        × Appends (O.took writer.old) (O.took writer.new) (text (compact image))
+        × (figures ≡ figures_of image)) }
+    // Nothing was written, or the collection had succeeded.
+    ensures written { OnErr result ((writer.new ≡ writer.old)
+        ⊎ IsTextBegun (R.left reader.old) (R.left reader.new) (O.took writer.old) (O.took writer.new)) }
+    ensures nothing_yet { IfErr result (λ fault. fault ≢ Fault.Io → writer.new ≡ writer.old) }
+    ensures bytes { IfErr result (IsFirstOfBytes (R.left reader.old)) }
+    ensures device { result ≡ Err Fault.Io
+        → IsTrue (R.has_failed reader.new) ⊎ IsTrue (O.has_failed writer.new) }
+    ensures workers { result ≡ Err Fault.Workers → AreNoneOrTooMany workers }
+    // Unless the input is refused, a number of workers that isn't 1 to 64 is.
+    ensures refused { AreNoneOrTooMany workers → MatchResult result (λ figures. ⊥)
+        (λ fault. (fault ≡ Fault.Workers) ⊎ IsOfReading fault) }
+    ensures gate { result ≡ Err Fault.Gate
+        → MayRefuseRead (R.left reader.old) (R.left reader.new) (G.may_refuse gate.now) workers }
+    ensures schedule { IfErr result (λ fault. (line : ℕ) → fault ≢ Fault.Schedule line) }
+{
+    let image = read_whole(alloc, reader, workers, threads)?;
+    match collect(alloc, image, workers, gate, threads, wait) {
+        Ok((outcome, _finished)) => {
+            write_image_buffered(alloc, &outcome.image, writer)?;
+            Ok(outcome.figures)
+        }
+        Err(refusal) => Err(refusal.fault()),
+    }
+}
 
 /// Compacts an image. Its regions are filled by 1 to 64 workers, each in a thread of its own if one can be started.
 ///

@@ -42,10 +42,9 @@ mod session;
 mod workers;
 
 pub use collection::alone::collect_alone;
-pub use collection::collect;
 pub use collection::record_streaming::record_stream;
 pub use collection::recording::record;
-pub use collection::streaming::collect_stream;
+pub use collection::{collect, collect_stream};
 pub use gate::{Gate, OpenGate};
 pub use laws::an_upgrade_is_collected_alike;
 pub use outcome::{Figures, Outcome, Refusal};

@@ -19,9 +19,8 @@
 #![tactic(auto)]
 
 mod cleanup;
-mod fill;
 mod region;
 
 pub use cleanup::clear::clear_above;
 pub use cleanup::deferred::{update_deferred, update_deferred_by_workers};
-pub use fill::fill_region;
+pub use region::filling::fill_region;

@@ -20,11 +20,10 @@ use region_cells::Cells;
 use retry_policy::RetryPolicy;
 use scheduler::moves_of_images;
 use std::sync::atomic::{AtomicBool, Ordering};
-use std::thread::Threads;
+use std::thread::{Threads, for_each_mut, spawn};
 use summary::Survey;
 use summary::laws::plans::planned_image_is_valid;
 use summary::laws::region_data::regions_to_fill;
-use thread_row::for_each_mut;
 
 /// What the workers of one collection share.
 #[derive(Drop)]
@@ -44,21 +43,6 @@ pub(crate) struct Crew<'a, D: Desk<W>, G: Gate, W: RetryPolicy> {
 }
 
 impl<'a, D: Desk<W>, G: Gate, W: RetryPolicy> Crew<'a, D, G, W> {
-    /// Waits at the start line, and then fills regions until all are settled or some worker meets a fault. A fault of
-    /// this worker stops the others.
-    pub(crate) fn work(&self, number: u32, worker: &mut Worker<D::Seat>)
-        requires number { number < length self.now.thieves.now }
-        requires seat { D.serves self.now.desk.now worker.old.seat }
-        ensures seat { D.serves self.now.desk.now worker.new.seat }
-        ensures end { IfErr worker.new.end (MayHalt D.may_fail (G.may_refuse self.now.gate.now number) (fill_count self.now.survey.now)) }
-    {
-        self.start.pass();
-        worker.end = self.fill_regions(number, worker);
-        if let Err(Halt::Failed(_)) = worker.end {
-            self.stop.store(true, Ordering::SeqCst);
-        }
-    }
-
     /// Fills regions until all are settled, and backs off while none is ready.
     pub(crate) fn fill_regions(&self, number: u32, worker: &mut Worker<D::Seat>) -> Result<(), Halt>
         requires number { number < length self.now.thieves.now }
@@ -151,8 +135,8 @@ impl<'a, D: Desk<W>, G: Gate, W: RetryPolicy> Crew<'a, D, G, W> {
         }
     }
 
-    /// Claims a region, and fills and settles it if it is granted and the gate admits it. Returns whether all regions to
-    /// fill are settled.
+    /// Claims a region, and fills and settles it if it is granted and the gate admits it. Queues the regions to fill that
+    /// have no pending readers any more. Returns whether all regions to fill are settled.
     fn visit(&self, number: u32, worker: &mut Worker<D::Seat>, region: u32) -> Result<bool, Halt>
         requires seat { D.serves self.now.desk.now worker.old.seat }
         requires region { region < fill_count self.now.survey.now }
@@ -169,7 +153,19 @@ impl<'a, D: Desk<W>, G: Gate, W: RetryPolicy> Crew<'a, D, G, W> {
             ticket.give_up();
             return Err(halt);
         }
-        let done = self.fill(worker, ticket)?;
+        let fill_regions = self.survey.plan().fill_regions();
+        let ready = &mut worker.ready;
+        let mut refused = None;
+        let queue = |source: u32| {
+            if source < fill_regions && !ready.push(source) {
+                refused = Some(source);
+            }
+        };
+        let done = self.fill_region(&mut worker.seat, ticket, queue)?;
+        if let Some(source) = refused {
+            done.give_up();
+            return Err(Halt::Failed(Fault::Overwritten(source)));
+        }
         self.gate.after_complete(number, region);
         Ok(self.desk.settle(&mut worker.seat, done, self.wait)?)
     }
@@ -193,33 +189,6 @@ impl<'a, D: Desk<W>, G: Gate, W: RetryPolicy> Crew<'a, D, G, W> {
             Err(Halt::Stopped)
         } else {
             Ok(())
-        }
-    }
-
-    /// Fills the region of a ticket, and queues the regions to fill that have no pending readers any more.
-    fn fill(&self, worker: &mut Worker<D::Seat>, ticket: Ticket) -> Result<Done, Fault>
-        requires seat { D.serves self.now.desk.now worker.old.seat }
-        requires unused { IsUnused ticket }
-        requires ticket { D.tells → IsTicketOf (D.moves self.now.desk.now) (D.caller worker.old.seat) ticket }
-        ensures seat { D.serves self.now.desk.now worker.new.seat }
-        ensures done { IfOk result (λ done. D.tells → IsDoneOf (D.caller worker.new.seat) done) }
-        ensures fault { IfErr result (IsFaultOf D.may_fail) }
-    {
-        let fill_regions = self.survey.plan().fill_regions();
-        let ready = &mut worker.ready;
-        let mut refused = None;
-        let queue = |source: u32| {
-            if source < fill_regions && !ready.push(source) {
-                refused = Some(source);
-            }
-        };
-        let done = self.fill_region(&mut worker.seat, ticket, queue)?;
-        match refused {
-            Some(source) => {
-                done.give_up();
-                Err(Fault::Overwritten(source))
-            }
-            None => Ok(done),
         }
     }
 
@@ -251,7 +220,8 @@ impl<'a, D: Desk<W>, G: Gate, W: RetryPolicy> Crew<'a, D, G, W> {
     }
 }
 
-/// Runs all workers, each in a thread of its own if one can be started, and otherwise one after another.
+/// Runs all workers, each in a thread of its own if one can be started, and otherwise one after another. Each waits at the
+/// start line, and then fills regions until all are settled or some worker meets a fault, which stops the others.
 pub(crate) fn work_all<D: Desk<W> + Sync, G: Gate + Sync, T: Threads + Sync, W: RetryPolicy + Sync>(
     crew: &Crew<'_, D, G, W>,
     workers: &mut [Worker<D::Seat>],
@@ -276,6 +246,8 @@ where
     let work = |number: usize, worker: &mut Worker<D::Seat>|
         requires { (D.moves desk.now ≡ image_table survey.now) × (cells.now ≡ survey.now)
             × (number < length thieves.now) × (number < 2 ^ 32) × D.serves desk.now worker.old.seat }
+        ensures { D.serves desk.entry.now worker.new.seat
+            × IfErr worker.new.end (MayHalt D.may_fail (G.may_refuse gate.entry.now number) (fill_count survey.entry.now)) }
     {
         let own = Crew {
             desk,
@@ -287,7 +259,20 @@ where
             start,
             stop,
         };
-        own.work(number as u32, worker)
+        own.start.pass();
+        worker.end = own.fill_regions(number as u32, worker);
+        if let Err(Halt::Failed(_)) = worker.end {
+            own.stop.store(true, Ordering::SeqCst);
+        }
+    };
+    // It takes the place in which the system leaves the first thread waiting.
+    let empty = if count > 1 {
+        spawn(threads, || {}).ok()
+    } else {
+        None
     };
     for_each_mut(threads, workers, count, &work);
+    if let Some(empty) = empty {
+        empty.join(threads);
+    }
 }

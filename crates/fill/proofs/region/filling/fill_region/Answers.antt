@@ -1,7 +1,7 @@
 use Rattle.std.proofs.Common.{ap, ◌∙◌, arith}
 use Rattle.object_heap.specs.HeapImage.{region_count}
 use Rattle.fill.proofs.Lemmas.Draining.{filled_here}
-use Rattle.fill.proofs.fill.fill_region.Goals as goal
+use Rattle.fill.proofs.region.filling.fill_region.Goals as goal
 
 pub write-requires : goal.write-requires
 write-requires g c =

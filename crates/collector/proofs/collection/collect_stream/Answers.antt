@@ -3,7 +3,7 @@ use Rattle.std.proofs.lemmas.Result.{err_from_is_err_and}
 use Rattle.image_streams.specs.declared.fault.Fault.TheVariants.{Workers, Gate, Schedule}
 use Rattle.collector.proofs.Lemmas.Reasons.{lost_by_gate}
 use Rattle.collector.proofs.Lemmas.Streams.{no_such_reading, text_begun, appended}
-use Rattle.collector.proofs.collection.streaming.collect_stream.Goals as goal
+use Rattle.collector.proofs.collection.collect_stream.Goals as goal
 
 pub returns-in_err-image-clause-workers : goal.returns-in_err-image-clause-workers
 returns-in_err-image-clause-workers g c is =
