@@ -60,6 +60,39 @@ lib | test | run)
 esac
 """
 
+# What a library that keeps its statements alone is proved by: a stand-in for the module that rt is made of.
+MODULE = r"""
+import pathlib
+KIT = pathlib.Path(__file__).parent
+class Crate:
+    cuts_libraries = False
+    def __init__(self, folder, root, known):
+        self.folder, self.root = pathlib.Path(folder), pathlib.Path(root)
+    def below(self):
+        lines = [line.partition(":") for line in (self.root / "crates.txt").read_text().splitlines()]
+        uses = next(uses for head, _, uses in lines if head.split()[:1] == [self.folder.name])
+        folders = [self.root / "crates" / it for it in uses.split()]
+        return [Crate(it, self.root, {}) for it in folders if it.is_dir()]
+    def is_built(self):
+        return (self.folder / "out/rlib/stamp").exists()
+    def stamp(self):
+        return "marked"
+    def build_rlib(self, flags, anew):
+        how = "statements" if anew and self.cuts_libraries and flags[0] == "--jobs" else "wrong"
+        with open(KIT / "calls", "a") as calls:
+            print(how, self.folder.name, file=calls)
+        if (KIT / f"fails-{self.folder.name}").exists():
+            return 1
+        (self.folder / "out/rlib").mkdir(parents=True)
+        return 0
+def guarded():
+    return []
+def root_above(folder):
+    return str(pathlib.Path(folder).parents[1])
+def lock(crates):
+    return []
+"""
+
 
 class Launcher:
     """Copies of the repository's scripts in a folder, and how often they were tried and wrong."""
@@ -342,6 +375,28 @@ def shipped(it: Launcher, copy: pathlib.Path, name: str) -> pathlib.Path:
     return clone
 
 
+def try_statements(it: Launcher) -> None:
+    """A kit whose rt is made of a module: libraries keep their statements alone. Else rt proves them."""
+    module = it.kit / "rtlib.py"
+    module.write_text(MODULE)
+    copy = it.repository("statements")
+    libraries = [name for name in program_crates() if name != "pcompact"]
+    said, calls = it.call([copy / "prove"], 0, "libraries that keep statements")
+    it.check(calls == " ".join(sorted(["run pcompact", *(f"statements {name}" for name in libraries)])), f"proved: {calls}")
+    it.call([copy / "prove", "--unpack"], 0, "unpacking them")
+    marks = {name: (copy / "crates" / name / "out/rlib/stamp").read_text() for name in libraries}
+    it.check(set(marks.values()) == {"marked"}, f"marks of libraries: {marks}")
+    change(copy, "fill", "Changed.")
+    (it.kit / "fails-fill").touch()
+    said, calls = it.call([copy / "prove"], 1, "a library that isn't proved")
+    it.check("the crate fill is not proved" in said and calls == "statements fill", f"a library that isn't proved: {said!r}, {calls}")
+    (it.kit / "fails-fill").unlink()
+    module.write_text("")
+    said, calls = it.call([copy / "prove"], 0, "a module without the functions")
+    it.check(calls == built(["fill", "collector", "collection_commands", "pcompact"]), f"proved then: {calls}")
+    module.unlink()
+
+
 def try_dist(it: Launcher, copy: pathlib.Path) -> None:
     """The program that comes with the repository."""
     said, _ = it.call([copy / "prove"], 0, "prove without dist")
@@ -491,6 +546,7 @@ def main() -> int:
         try_failures(it, copy)
         try_changes_meanwhile(it, copy)
         try_above(it, copy)
+        try_statements(it)
         try_dist(it, copy)
         try_library(it, copy)
         try_wrong_dist(it, copy)
