@@ -11,15 +11,17 @@ import os
 import pathlib
 import subprocess
 import sys
+import types
 
-from statements import load_rt, mark
+from build_crate import load_rt, mark
 
 TOP = pathlib.Path(__file__).resolve().parents[2]
+CRATE = TOP / "crates" / "pcompact_c"
 
 
-def mark_libraries() -> None:
+def mark_libraries(rt: types.ModuleType) -> None:
     """Marks each library that has no mark."""
-    for crate in load_rt().crates_below(str(TOP)):
+    for crate in rt.crates_below(str(TOP)):
         folder = pathlib.Path(crate.folder, "out", "rlib")
         if folder.is_dir() and not (folder / "stamp").exists():
             mark(crate)
@@ -28,10 +30,13 @@ def mark_libraries() -> None:
 def main() -> int:
     os.chdir(TOP)
     try:
-        mark_libraries()
+        rt = load_rt()
+        mark_libraries(rt)
     except (ImportError, AttributeError) as error:
         print(f"rt lib proves all crates below again: {error}")
-    return subprocess.run(["rt", "lib"], cwd=TOP / "crates" / "pcompact_c", check=False).returncode
+        return subprocess.run(["rt", "lib"], cwd=CRATE, check=False).returncode
+    os.chdir(CRATE)
+    return rt.main("lib")
 
 
 if __name__ == "__main__":

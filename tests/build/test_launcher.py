@@ -63,6 +63,7 @@ esac
 # What a library that keeps its statements alone is proved by: a stand-in for the module that rt is made of.
 MODULE = r"""
 import pathlib
+import subprocess
 KIT = pathlib.Path(__file__).parent
 class Crate:
     cuts_libraries = False
@@ -91,6 +92,8 @@ def root_above(folder):
     return str(pathlib.Path(folder).parents[1])
 def lock(crates):
     return []
+def main(*words):
+    return subprocess.run([KIT / "rt", *words]).returncode
 """
 
 
@@ -124,7 +127,7 @@ class Launcher:
             shutil.copy(TOP / it, copy)
         shutil.copytree(TOP / "c", copy / "c")
         (copy / "tests" / "build").mkdir(parents=True)
-        shutil.copy(TOP / "tests" / "build" / "statements.py", copy / "tests" / "build")
+        shutil.copy(TOP / "tests" / "build" / "build_crate.py", copy / "tests" / "build")
         for crate in crate_names():
             (copy / "crates" / crate / "src").mkdir(parents=True)
             (copy / "crates" / crate / "src" / "lib.rt").write_text("//! A crate.\n")

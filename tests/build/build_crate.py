@@ -1,0 +1,73 @@
+#!/usr/bin/env python3
+"""Proves and builds the crate of this folder, over libraries that are built, as `rt check`, `lib`, `run` and `test` do, but sooner.
+
+rt knows what is built by a sum of a crate's sources and of those below, and computes it anew for each way from one crate to
+another: thousands of ways in the upper crates, which take minutes. Here each sum is computed once, so the sources must not change
+meanwhile. `statements` proves a library from nothing and keeps its statements alone, which load faster than its proofs, as
+`rt verdict` does for the crates above.
+
+This calls the functions of rt's module. With a kit that has no such functions it calls rt.
+
+usage: tests/build/build_crate.py JOBS statements
+       tests/build/build_crate.py JOBS check|lib|run|test [WORD ..]
+"""
+import functools
+import os
+import pathlib
+import shutil
+import subprocess
+import sys
+import types
+
+VERBS = ("statements", "check", "lib", "run", "test")
+
+
+def load_rt() -> types.ModuleType:
+    """The module that rt is made of, with sums that are computed once. Raises ImportError or AttributeError if there is none."""
+    sys.path.insert(0, str(pathlib.Path(shutil.which("rt") or "rt").resolve().parent))
+    import rtlib
+
+    rtlib.Crate.stamp = functools.cache(rtlib.Crate.stamp)
+    return rtlib
+
+
+def mark(crate) -> None:
+    """Marks a library as made of the sources as they stand, by which rt knows it."""
+    pathlib.Path(crate.folder, "out", "rlib", "stamp").write_text(crate.stamp())
+
+
+def prove_statements(rt: types.ModuleType, jobs: str) -> int:
+    """Proves a library and keeps its statements. Returns the exit status."""
+    rt.guarded()
+    here = os.getcwd()
+    crate = rt.Crate(here, rt.root_above(here) or here, {})
+    lacking = [dep.name for dep in crate.below() if not dep.is_built()]
+    if lacking:
+        print(f"the library {lacking[0]} isn't built")
+        return 1
+    held = rt.lock([*crate.below(), crate])
+    rt.Crate.cuts_libraries = True
+    status = crate.build_rlib(["--jobs", jobs], anew=True)
+    if status == 0:
+        mark(crate)
+    for it in held:
+        os.close(it)
+    return status
+
+
+def main() -> int:
+    if len(sys.argv) < 3 or not sys.argv[1].isdigit() or sys.argv[2] not in VERBS:
+        print(__doc__.strip(), file=sys.stderr)
+        return 2
+    jobs, verb, *words = sys.argv[1:]
+    try:
+        rt = load_rt()
+        return prove_statements(rt, jobs) if verb == "statements" else rt.main(verb, "--jobs", jobs, *words)
+    except (ImportError, AttributeError, TypeError) as error:
+        print(f"rt takes longer, as its module isn't the one that is known here: {error}", flush=True)
+    verb = "lib" if verb == "statements" else verb
+    return subprocess.run(["rt", verb, "--jobs", jobs, *words], check=False).returncode
+
+
+if __name__ == "__main__":
+    sys.exit(main())
