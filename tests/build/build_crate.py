@@ -4,7 +4,7 @@
 rt knows what is built by a sum of a crate's sources and of those below, and computes it anew for each way from one crate to
 another: thousands of ways in the upper crates, which take minutes. Here each sum is computed once, so the sources must not change
 meanwhile. `statements` proves a library from nothing and keeps its statements alone, which load faster than its proofs, as
-`rt verdict` does for the crates above.
+`rt verdict` does for the crates above. Unlike that, it doesn't search for contracts that no call can meet.
 
 This calls the functions of rt's module. With a kit that has no such functions it calls rt.
 
@@ -36,8 +36,15 @@ def mark(crate) -> None:
     pathlib.Path(crate.folder, "out", "rlib", "stamp").write_text(crate.stamp())
 
 
+def help_without(help_of, flag: str, verb: str) -> str:
+    """The help of a command of rattle, as if it hadn't this flag."""
+    return help_of(verb).replace(flag, "")
+
+
 def prove_statements(rt: types.ModuleType, jobs: str) -> int:
     """Proves a library and keeps its statements. Returns the exit status."""
+    # rt searches for contracts that no call can meet where rattle's help has this flag.
+    rt.help_of = functools.partial(help_without, rt.help_of, "--empty-contracts")
     rt.guarded()
     here = os.getcwd()
     crate = rt.Crate(here, rt.root_above(here) or here, {})

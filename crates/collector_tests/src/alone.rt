@@ -8,7 +8,7 @@ use std::alloc::Global;
 use std::test::Fail;
 
 /// Collects the text `before`. Returns the figures, and whether the image then has the text `after`.
-pub(crate) fn collected_alone(
+fn collected_alone(
     alloc: Global,
     (before, after): (&[u8], &[u8]),
 ) -> Result<(Figures, bool), Fault> {

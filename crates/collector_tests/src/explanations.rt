@@ -1,10 +1,9 @@
-//! What is said of words, live addresses and roots that differ from those of the base heap's compaction.
+//! What is said of roots and words that differ from those of the base heap's compaction.
 ghost use Rattle.std.specs.Prelude.{◌<◌};
 
 use crate::checks::equal_at;
 use collector::{
-    ExplainedWord, Found, Lead, Moved, OtherLive, OtherRoot, OtherWord, Part, Verdict, explain,
-    verify, verify_below_top,
+    ExplainedWord, Found, Lead, OtherLive, OtherRoot, Verdict, explain, verify, verify_below_top,
 };
 use heap_image::{Fault, Image, decode_by_threads};
 use heap_samples::{
@@ -32,38 +31,13 @@ const NO_DIFFERENCE: Differences = Differences {
     root: None,
 };
 
-/// The words and live addresses of an image, the live addresses to look at, and what is said of them and of the words
-/// below the top alone.
-#[derive(Clone, Copy)]
-struct Row<'a> {
-    words: [u64; 32],
-    live: &'a [u64],
-    listed: &'a [u64],
-    differences: Differences,
-    below: Differences,
-}
-
-impl<'a> Row<'a> {
-    /// A row with these words, the compaction's live addresses, and no difference.
-    fn moved(words: [u64; 32]) -> Row<'a> {
-        Row {
-            words,
-            live: &MOVED_LIVE,
-            listed: &MOVED_LIVE,
-            differences: NO_DIFFERENCE,
-            below: NO_DIFFERENCE,
-        }
-    }
-}
-
 fn differences_of(
     alloc: Global,
     before: &Image,
     found: Found<'_>,
-    below_top: bool,
     threads: &(impl Threads + Sync),
 ) -> Result<Option<Differences>, Fault> {
-    match explain(alloc, before, found, below_top, threads)? {
+    match explain(alloc, before, found, false, threads)? {
         Some(explanation) => Ok(Some(Differences {
             count: explanation.count,
             first: explanation.first.as_slice().first().copied(),
@@ -72,139 +46,6 @@ fn differences_of(
         })),
         None => Ok(None),
     }
-}
-
-fn differences_of_row(
-    alloc: Global,
-    row: &Row<'_>,
-    below_top: bool,
-    threads: &(impl Threads + Sync),
-) -> Result<Option<Differences>, Fail> {
-    let settings = Settings::of_base(0);
-    let before = image_of(alloc, settings, &BASE_WORDS, &BASE_LIVE, threads)?;
-    let after = image_of(alloc, settings, &row.words, row.live, threads)?;
-    let heap = after.heap();
-    let found = Found {
-        heap: &heap,
-        live: row.listed,
-        roots: &[],
-    };
-    Ok(differences_of(alloc, &before, found, below_top, threads)?)
-}
-
-/// The words of the compaction with another one at this address.
-fn with_word(address: usize, word: u64) -> [u64; 32]
-    requires { address < 32 }
-{
-    let mut words = MOVED_WORDS;
-    words[address] = word;
-    words
-}
-
-/// What is said of one word.
-fn one(word: OtherWord, part: Part, lead: Option<Lead>) -> Differences {
-    Differences {
-        count: 1,
-        first: Some(ExplainedWord { word, part, lead }),
-        ..NO_DIFFERENCE
-    }
-}
-
-/// The base heap as it was: its first reference is the old one.
-fn unmoved<'a>() -> Row<'a> {
-    let word = OtherWord {
-        address: 1,
-        expected: 4,
-        found: 6,
-    };
-    let part = Part::Field(Moved { old: 0, new: 0 }, 0);
-    let live = OtherLive {
-        index: 1,
-        expected: 3,
-        found: 5,
-    };
-    let differences = Differences {
-        count: 29,
-        live: Some(live),
-        ..one(word, part, Some(Lead::Unchanged))
-    };
-    Row {
-        words: BASE_WORDS,
-        live: &BASE_LIVE,
-        listed: &BASE_LIVE,
-        differences,
-        below: Differences {
-            count: 18,
-            ..differences
-        },
-    }
-}
-
-/// A reference that leads to another object.
-fn misled<'a>() -> Row<'a> {
-    let word = OtherWord {
-        address: 1,
-        expected: 4,
-        found: 10,
-    };
-    let part = Part::Field(Moved { old: 0, new: 0 }, 0);
-    let lead = Lead::To(Part::Header(Moved { old: 20, new: 9 }));
-    let differences = one(word, part, Some(lead));
-    Row {
-        differences,
-        below: differences,
-        ..Row::moved(with_word(1, 10))
-    }
-}
-
-/// A free word that isn't cleared.
-fn littered<'a>() -> Row<'a> {
-    let word = OtherWord {
-        address: 25,
-        expected: 0,
-        found: 7,
-    };
-    Row {
-        differences: one(word, Part::Free, None),
-        ..Row::moved(with_word(25, 7))
-    }
-}
-
-/// A live list with one wrong address.
-fn mislisted<'a>() -> Row<'a> {
-    let live = OtherLive {
-        index: 3,
-        expected: 9,
-        found: 8,
-    };
-    let differences = Differences {
-        live: Some(live),
-        ..NO_DIFFERENCE
-    };
-    Row {
-        listed: &[0, 3, 7, 8],
-        differences,
-        below: differences,
-        ..Row::moved(MOVED_WORDS)
-    }
-}
-
-#[test]
-fn words_and_live_addresses_are_explained(rt: HostRuntime) -> Result<(), Fail> {
-    let rows = [
-        Row::moved(MOVED_WORDS),
-        unmoved(),
-        misled(),
-        littered(),
-        mislisted(),
-    ];
-    for (i, row) in rows.iter().enumerate() {
-        let differences = differences_of_row(rt.alloc(), row, false, &rt)?;
-        equal_at(&rt, differences, Some(row.differences), i as u64);
-        let below = differences_of_row(rt.alloc(), row, true, &rt)?;
-        equal_at(&rt, below, Some(row.below), i as u64);
-    }
-    Ok(())
 }
 
 /// What is said of these roots, where the words are right.
@@ -224,7 +65,7 @@ fn differences_of_roots(
         live: after.live(),
         roots,
     };
-    Ok(differences_of(alloc, &before, found, false, threads)?)
+    Ok(differences_of(alloc, &before, found, threads)?)
 }
 
 #[test]
@@ -255,6 +96,15 @@ fn roots_are_explained(rt: HostRuntime) -> Result<(), Fail> {
         equal_at(&rt, differences, Some(want), i as u64);
     }
     Ok(())
+}
+
+/// The words of the compaction with another one at this address.
+fn with_word(address: usize, word: u64) -> [u64; 32]
+    requires { address < 32 }
+{
+    let mut words = MOVED_WORDS;
+    words[address] = word;
+    words
 }
 
 /// The verdicts on these words beside the base heap, on all of them and on those below the top.

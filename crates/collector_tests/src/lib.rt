@@ -16,16 +16,8 @@ mod heaps;
 #[cfg(test)]
 mod library;
 #[cfg(test)]
-mod marked;
-#[cfg(test)]
 mod refusals;
 #[cfg(test)]
-mod seeded;
-#[cfg(test)]
 mod sessions;
-#[cfg(test)]
-mod verdicts;
-#[cfg(test)]
-mod versions;
 #[cfg(test)]
 mod workers;

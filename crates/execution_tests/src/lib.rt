@@ -22,6 +22,4 @@ mod readers;
 #[cfg(test)]
 mod recorded;
 #[cfg(test)]
-mod seeded;
-#[cfg(test)]
 mod setups;

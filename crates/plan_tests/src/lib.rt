@@ -13,7 +13,3 @@ mod known_heaps;
 mod redirected;
 #[cfg(test)]
 mod regions;
-#[cfg(test)]
-mod rooted;
-#[cfg(test)]
-mod seeded;

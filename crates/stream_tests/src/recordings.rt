@@ -1,14 +1,10 @@
-//! Recorded collections in memory: the schedule of one worker, and replays.
+//! The schedule that one worker records of the base heap, and replays.
 ghost use Rattle.std.specs.Prelude.{◌≡◌};
 
-use crate::checks::equal;
-use collector::{OpenGate, Verdict, record, verify};
+use collector::{Verdict, verify};
 use heap_image::{Fault, Image};
-use heap_samples::{BASE_LIVE, BASE_WORDS, Settings, image_of};
-use history::{End, Schedule, replay, write_schedule};
+use history::{End, Schedule, replay};
 use std::alloc::Global;
-use std::sync::Wait;
-use std::test::Fail;
 use std::thread::Threads;
 use summary::Survey;
 
@@ -34,37 +30,6 @@ pub(crate) const BASE_SCHEDULE: &str = "schedule 1 1
 0 complete 2 ok
 0 settle 2 all
 ";
-
-/// The base heap with allowance 0.
-fn base(alloc: Global, threads: &(impl Threads + Sync)) -> Result<Image, Fail> {
-    let settings = Settings::of_base(0);
-    image_of(alloc, settings, &BASE_WORDS, &BASE_LIVE, threads)
-}
-
-/// Whether this is the compaction of the base heap.
-fn is_slid(alloc: Global, after: &Image, threads: &(impl Threads + Sync)) -> Result<bool, Fail> {
-    let before = base(alloc, threads)?;
-    Ok(verify(alloc, &before, after, threads)? == Verdict::Same)
-}
-
-/// The text of one worker's schedule, and whether the image is the compaction.
-fn by_one<R: Threads + Wait + Sync>(alloc: Global, rt: &R) -> Result<(Vec<u8>, bool), Fail> {
-    match record(alloc, base(alloc, rt)?, 1, &OpenGate, rt, rt) {
-        Ok((outcome, schedule)) => {
-            let is_slid = is_slid(alloc, &outcome.image, rt)?;
-            Ok((write_schedule(alloc, &schedule)?, is_slid))
-        }
-        Err(refusal) => Err(Fail::from(refusal.fault())),
-    }
-}
-
-#[test]
-fn one_worker_records_the_base_heap(rt: HostRuntime) -> Result<(), Fail> {
-    let (text, is_slid) = by_one(rt.alloc(), &rt)?;
-    equal(&rt, text.as_slice(), BASE_SCHEDULE.as_bytes());
-    equal(&rt, is_slid, true);
-    Ok(())
-}
 
 /// Whether a replay of the schedule over the image ends with its compaction.
 pub(crate) fn replays(
