@@ -15,6 +15,10 @@ static int has_text(pcompact_fault fault, const char *wanted) {
 static void check_texts(void) {
     check(has_text((pcompact_fault){11, 0, 0}, "11 memory"), "text of fault 11");
     check(has_text((pcompact_fault){6, 0, 4}, "6 live order at index 4"), "text of fault 6");
+    check(has_text((pcompact_fault){8, 0, 4194303}, "8 overlap at 4194303"), "text of fault 8");
+    check(has_text((pcompact_fault){15, 0, 1}, "15 overwritten region 1"), "text of fault 15");
+    check(has_text((pcompact_fault){16, 0, 0}, "16 gate"), "text of fault 16");
+    check(has_text((pcompact_fault){17, 0, 4194303}, "17 root at index 4194303"), "text of fault 17");
     check(has_text((pcompact_fault){9, UINT32_MAX, UINT64_MAX}, "9 reference at 18446744073709551615 field 4294967295"),
           "the longest text");
     check(has_text((pcompact_fault){0, 0, 0}, ""), "no fault has no text");

@@ -116,12 +116,15 @@ IMAGES = [
     (image(with_word(WORDS, 23, 10), LIVE), "9 reference at 20 field 2"),
     (image(with_word(WORDS, 23, 10), LIVE) + b"\0", "9 reference at 20 field 2"),
     (image(with_word(SMALL, 2, header(2, 0)), [0, 2, 3]), "8 overlap at 3"),
+    (image(with_word(SMALL, 2, header(2, 0)), [0, 2, 3]) + b"\0", "8 overlap at 3"),
     (head(7, 0), "4 length"),
     (head(8, 0), "5 truncated body"),
     (head(8, 4_194_305), "4 length"),
     (head(2, 0), "3 region log"),
     (head(17, 0), "3 region log"),
-    (head(2, 0, magic=b"PCHEAP04"), "2 magic"),
+    (head(16, 0), "5 truncated body"),
+    (head(16, 0, words=4_259_840), "4 length"),
+    *[(head(log, count, magic=b"PCHEAP04"), "2 magic") for log, count in ((2, 0), (7, 0), (8, 0), (8, 4_194_305), (17, 0))],
     (head(3, 0, words=0), "4 length"),
     (head(3, 0, words=12), "4 length"),
     (head(16, 0, words=1 << 63), "4 length"),
@@ -132,6 +135,7 @@ CHANGED = [
     (8, 2, "3 region log"),
     (16, 31, "4 length"),
     (304, 5, "6 live order at index 2"),
+    (296, 3, "7 header at 3"),
     (32, 2, "7 header at 0"),
     (32, 6, "8 overlap at 5"),
     (40, 33, "9 reference at 0 field 0"),
@@ -169,6 +173,7 @@ def try_images(tried: Tried) -> None:
 def try_malicious_images(tried: Tried) -> None:
     for words, said in MALICIOUS:
         try_refused(tried, image(words, LIVE), said)
+        try_refused(tried, image(words, LIVE) + b"\0", said)
 
 
 def try_beginnings(tried: Tried) -> None:
@@ -178,6 +183,7 @@ def try_beginnings(tried: Tried) -> None:
         tried.write("image", BASE[:length])
         tried.run("summary image", fault(said))
         tried.run("collect image out --workers 2", fault(said, {"out": b""}))
+        tried.run("upgrade image out", fault(said, {"out": b""}))
 
 
 def try_which_fault(tried: Tried) -> None:

@@ -12,11 +12,12 @@ import sys
 sys.dont_write_bytecode = True
 sys.path.insert(0, str(pathlib.Path(__file__).resolve().parents[2]))
 from tests.models.heap_text import text_of
-from tests.models.image import FRONT, Collection, decode, header
+from tests.models.image import FILLER, FRONT, Collection, Fault, decode, header
 from tests.support.cases import (COLLECTED, COMPACTED, LIVE, MOVED, ONE_WORKER, REPORT, SMALL, TWO_WORKERS, WORDS, head,
                                  image, rooted, try_collected, try_groups, try_refused, with_word)
 from tests.support.program import Answer, Tried, differs, fault
 
+LARGEST = 2 ** 64 - 1
 ROOTED_BASE = rooted(WORDS, [21, 0])
 ROOTED_COMPACTED = rooted(MOVED, [10, 0])
 
@@ -34,6 +35,20 @@ NOTHING_COLLECTED = "prefix 0 top 0 filled 0\n"
 NOTHING_REPORT = "prefix 0 top 0\n" + "".join(f"{r:>8}{0:>9}{0:>9}{0:>9}{0:>9}        -\n" for r in range(4))
 # An overlap at 3.
 CROSSED = with_word(SMALL, 2, header(2, 0))
+# An object in the first words of another one.
+INNER = [header(3, 0), header(4, 0), *[0] * 6]
+# Two objects that refer to each other, and two that refer to themselves.
+LINKS = [header(2, 1), 5, header(2, 1), 3, header(2, 1), 1, header(2, 1), 7]
+# Data of an object, a dead object and a filler contain words that look like headers and references.
+LIKE_OBJECTS = [header(3, 1), 7, header(9, 8), header(2, 1), 99, header(1, 0, FILLER), header(2, 0), header(1, 0)]
+
+
+def of_one_region(top: int) -> tuple[str, str]:
+    """Figures and report of a region of 8 words, all or some of which live and slide up to this address."""
+    prefix, source = (8, "-") if top == 8 else (0, 0)
+    columns = "".join(f"{column:>9}" for column in (0, top, 0, 0, source))
+    return f"prefix {prefix} top {top} filled 1\n", f"prefix {prefix} top {top}\n{0:>8}{columns}\n"
+
 
 # Words and roots; figures and report; words and roots afterwards.
 COLLECTIONS = [
@@ -45,6 +60,8 @@ COLLECTIONS = [
     # Repeated; in no order; as many as words.
     (WORDS, [21, 21, 0, 21, 1], COLLECTED, REPORT, MOVED, [10, 10, 0, 10, 1]),
     (WORDS, [13, 21, 1, 6], COLLECTED, REPORT, MOVED, [8, 10, 1, 4]),
+    (WORDS, [13, 1, 13, 0, 6, 21, 21], COLLECTED, REPORT, MOVED, [8, 1, 8, 0, 4, 10, 10]),
+    (WORDS, [0] * 32, NOTHING_COLLECTED, NOTHING_REPORT, [0] * 32, [0] * 32),
     (WORDS, [0] * 31 + [21], COLLECTED, REPORT, MOVED, [0] * 31 + [10]),
     (WORDS, [21] * 32, COLLECTED, REPORT, MOVED, [10] * 32),
     # Dead words that look like objects: one side by side with live ones, one over two, one that refers to live ones.
@@ -54,6 +71,15 @@ COLLECTIONS = [
     # Objects that overlap, and one whose header is no header, but nobody refers to them.
     (with_word(with_word(THREE, 29, header(1, 0)), 20, header(13, 8)), [1], THREE_COLLECTED, THREE_REPORT, THREE_MOVED,
      [1]),
+    (INNER, [1], *of_one_region(3), [header(3, 0), header(4, 0), *[0] * 6], [1]),
+    (INNER, [2], *of_one_region(4), [header(4, 0), *[0] * 7], [1]),
+    (CROSSED, [3, 1], *of_one_region(3), [header(1, 0), header(2, 0), header(5, 2), *[0] * 5], [2, 1]),
+    # An object with references out of the heap, to which nobody refers.
+    (with_word(with_word(THREE, 23, 33), 24, LARGEST), [6], THREE_COLLECTED, THREE_REPORT, THREE_MOVED, [4]),
+    (LIKE_OBJECTS, [1], *of_one_region(5), [header(3, 1), 4, header(9, 8), header(2, 0), header(1, 0), 0, 0, 0], [1]),
+    (LINKS, [1], *of_one_region(4), [header(2, 1), 3, header(2, 1), 1, 0, 0, 0, 0], [1]),
+    (LINKS, [3], *of_one_region(2), [header(2, 1), 1, *[0] * 6], [1]),
+    (LINKS, [5, 7, 3], *of_one_region(8), LINKS, [5, 7, 3]),
 ]
 
 
@@ -72,7 +98,6 @@ def try_roots(tried: Tried) -> None:
     try_collected(tried, rooted(words, [32]), "prefix 0 top 1 filled 1\n", rooted([header(1, 0)] + [0] * 31, [1]))
 
 
-LARGEST = 2 ** 64 - 1
 REFUSED = [
     (rooted(WORDS, [4]), "7 header at 3"),
     (rooted(WORDS, [4, 33]), "17 root at index 1"),
@@ -89,10 +114,18 @@ REFUSED = [
     (head(8, 4_194_305, magic=b"PCHEAP02"), "4 length"),
     (head(17, 0, magic=b"PCHEAP02"), "3 region log"),
     (head(2, 0, magic=b"PCHEAP02"), "3 region log"),
+    (head(16, 0, magic=b"PCHEAP02"), "5 truncated body"),
+    (head(16, 0, words=4_259_840, magic=b"PCHEAP02"), "4 length"),
     (head(2, 0, magic=b"PCHEAP00"), "2 magic"),
     (head(20, 0, words=2 ** 36, magic=b"PCHEAP03"), "5 truncated body"),
     (head(20, 0, words=2 ** 36 + 2 ** 20, magic=b"PCHEAP03"), "4 length"),
     (head(21, 0, words=2 ** 36, magic=b"PCHEAP03"), "3 region log"),
+    (head(20, 0, words=2 ** 36, magic=b"PCHEAP03") + bytes(range(100)), "5 truncated body"),
+    (head(16, 0, words=2 ** 36 + 2 ** 16, magic=b"PCHEAP03"), "4 length"),
+    (head(3, 0, words=32, magic=b"PCHEAP03"), "5 truncated body"),
+    (head(3, 32, words=32, magic=b"PCHEAP03"), "5 truncated body"),
+    (head(2, 0, words=32, magic=b"PCHEAP03"), "3 region log"),
+    (head(20, 0, words=0, magic=b"PCHEAP03"), "4 length"),
     (head(3, 0, words=2 ** 23, magic=b"PCHEAP03"), "5 truncated body"),
     (head(3, 0, words=2 ** 23 + 8, magic=b"PCHEAP03"), "4 length"),
     (head(2, 0, magic=b"PCHEAP03"), "3 region log"),
@@ -134,10 +167,25 @@ REFUSED = [
     (rooted(with_word(WORDS, 2, 99), [1]) + b"\0", "9 reference at 0 field 1"),
     (rooted(with_word(with_word(WORDS, 2, 99), 12, header(2, 2)), [1]), "7 header at 12"),
 ]
+# What is refused alike where a byte follows.
+UNSOUND = [
+    (rooted(WORDS, [21, 0, LARGEST, 33]), "17 root at index 2"),
+    (rooted(WORDS, [32]), "7 header at 31"),
+    (rooted(WORDS, [33] * 33), "4 length"),
+    (rooted(WORDS, [15, 4, 32]), "7 header at 3"),
+    # Reached from a root, and from two objects.
+    (rooted(with_word(with_word(WORDS, 1, 4), 6, 4), [4, 21, 4]), "7 header at 3"),
+    # Behind one with a reference out of the heap.
+    (rooted(with_word(with_word(WORDS, 23, 33), 12, 0), [21]), "7 header at 12"),
+    (rooted(with_word(with_word(WORDS, 23, 33), 24, LARGEST), [21]), "9 reference at 20 field 2"),
+    (rooted(with_word(with_word(WORDS, 23, 33), 1, 33), [21, 1]), "9 reference at 0 field 0"),
+    (rooted(INNER, [2, 1]), "8 overlap at 1"),
+    (rooted(CROSSED, [4]), "8 overlap at 3"),
+]
 
 
 def try_refused_roots(tried: Tried) -> None:
-    for text, said in REFUSED:
+    for text, said in [*REFUSED, *UNSOUND, *((text + b"\0", said) for text, said in UNSOUND)]:
         try_refused(tried, text, said)
     for length in range(len(ROOTED_BASE)):
         said = "1 truncated header" if length < FRONT.size else "5 truncated body"
@@ -249,19 +297,42 @@ def try_many(tried: Tried) -> None:
     words[2::3] = [3 * j - 1 if j else 0 for j in following]
     moved[1:2 * count:2] = [2 * j - 1 if j else 0 for j in following]
     figures = f"prefix 0 top {2 * count} filled {2 * count // 512}\n"
-    tried.write("image", in_bytes(words, [3 * order[0] + 2]))
-    tried.run("collect image out --workers 2",
-              Answer(0, figures, made={"out": in_bytes(moved, [2 * order[0] + 1])}))
+    try_one_root(tried, in_bytes(words, [3 * order[0] + 2]), figures, in_bytes(moved, [2 * order[0] + 1]))
     many = [header(count, count - 1), *range(count + 2, 3 * count, 2)]
     words = many + [999, header(1, 0)] * count
     moved = [many[0], *range(count + 1, 2 * count), *[header(1, 0)] * (count - 1)]
     figures = f"prefix {count} top {2 * count - 1} filled {2 * count // 512}\n"
-    tried.write("image", in_bytes(words, [1]))
-    tried.run("collect image out --workers 2",
-              Answer(0, figures, made={"out": in_bytes(moved + [0] * (count + 1), [1])}))
+    try_one_root(tried, in_bytes(words, [1]), figures, in_bytes(moved + [0] * (count + 1), [1]))
 
 
-GROUPS = (try_roots, try_refused_roots, try_rooted_verdicts, try_version_3, try_rooted_schedules, try_many)
+def try_one_root(tried: Tried, text: bytes, figures: str, after: bytes) -> None:
+    """An image with one root, which two threads mark, and one alone."""
+    tried.write("image", text)
+    tried.run("collect image out --workers 2", Answer(0, figures, made={"out": after}))
+    tried.run("upgrade image again", Answer(0, "roots 1\n", made={"again": text}))
+
+
+# What stands at even addresses of a small heap, mostly headers of pairs; and at odd ones and among the roots, mostly references
+# to even addresses.
+EVEN = [header(2, 1)] * 9 + [header(2, 0), header(4, 3), header(4, 2), header(3, 1), header(4, 1), header(1, 0), 0]
+ODD = [0, 1, 3, 5, 7, 9, 11, 13, 15, 1, 5, 9, 13, 7, 4, 17]
+
+
+def try_small(tried: Tried) -> None:
+    """Heaps of 16 words, of which many are none, beside the model."""
+    chance = random.Random(1)
+    for _ in range(1_500):
+        words = [chance.choice(some) for some in (EVEN, ODD) * 8]
+        text = rooted(words, chance.choices(ODD, k=chance.randint(1, 4)))
+        tried.write("image", text)
+        try:
+            answer = Answer(0, text_of(decode(text)))
+        except Fault as first:
+            answer = fault(str(first))
+        tried.run("text image", answer)
+
+
+GROUPS = (try_roots, try_refused_roots, try_rooted_verdicts, try_version_3, try_rooted_schedules, try_many, try_small)
 
 if __name__ == "__main__":
     sys.exit(try_groups(GROUPS))

@@ -13,7 +13,9 @@ import sys
 sys.dont_write_bytecode = True
 sys.path.insert(0, str(pathlib.Path(__file__).resolve().parents[2]))
 from tests.cli.test_import import DUMP, NAME, imported
-from tests.support.cases import BASE, COLLECTED, COMPACTED, REPORT, try_groups
+from tests.models.heap_text import text_of
+from tests.models.image import decode
+from tests.support.cases import BASE, COLLECTED, COMPACTED, REPORT, image, rooted, try_groups
 from tests.support.program import Answer, Tried
 from tests.support.terminal import on_terminal
 
@@ -51,6 +53,17 @@ def try_standard(tried: Tried) -> None:
     tried.write("-", BASE)
     tried.run("summary ./-", Answer(0, summary))
     (tried.folder / "-").unlink()
+
+
+def try_pieces(tried: Tried) -> None:
+    """Two regions of the largest size, and many small ones, that come and go in pieces."""
+    words = [a << 32 | a for a in range(131_072)]
+    for log in (3, 16):
+        tried.write("image", image(words, [], log=log))
+        done = piped(tried, "dd if=image bs=10000 2>/dev/null | pcompact upgrade - - | dd bs=10000 2>/dev/null")
+        if (done.stdout, done.stderr) != (rooted(words, [], log=log), b"roots 0\n"):
+            tried.is_wrong(f"regions of 2 ^ {log} words from a pipe are others: {done.stderr!r}")
+        tried.run("text -", Answer(0, text_of(decode(tried.read("image")))), input=tried.read("image"))
 
 
 def try_dumps(tried: Tried) -> None:
@@ -135,7 +148,7 @@ def try_gone(tried: Tried) -> None:
             tried.is_wrong(f"pcompact {words} | head -c 4: {process.returncode}, {said!r}")
 
 
-GROUPS = (try_standard, try_dumps, try_objects, try_terminal, try_heading, try_gone)
+GROUPS = (try_standard, try_pieces, try_dumps, try_objects, try_terminal, try_heading, try_gone)
 
 if __name__ == "__main__":
     sys.exit(try_groups(GROUPS))

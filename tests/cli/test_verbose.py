@@ -46,13 +46,18 @@ LENGTHS = [
     (3, 0, 12, "the number of words is not a multiple of the words of a region"),
     (3, 0, 4_194_305, "the number of words is not a multiple of the words of a region"),
     (8, 0, 4_194_560, "the number of words is above 4194304"),
+    (3, 0, 4_194_312, "the number of words is above 4194304"),
     (3, 0, 131_080, "there are more than 16384 regions"),
+    (7, 4_194_305, 4_194_304, "there are more than 16384 regions"),
+    (8, 4_194_305, 4_194_304, "there are more live addresses or roots than words"),
     (3, 33, 32, "there are more live addresses or roots than words"),
 ]
 # The same of version 3.
 LARGE_LENGTHS = [
     (16, 0, 2 ** 36 + 2 ** 16, "the number of words is above 68719476736"),
     (3, 0, 2 ** 23 + 8, "there are more than 1048576 regions"),
+    (15, 0, 2 ** 36, "there are more than 1048576 regions"),
+    (3, 33, 32, "there are more live addresses or roots than words"),
     (20, 0, 2 ** 19, "the number of words is not a multiple of the words of a region"),
 ]
 

@@ -1,10 +1,7 @@
 //! The results of the calls that read and write images.
-use crate::checks::{equal, holds};
 use heap_image::{
-    Fault, FromRead, Image, Intake, decode, decode_by_threads, encode, read_image,
-    read_image_by_threads,
+    Fault, FromRead, Image, decode, decode_by_threads, encode, read_image, read_image_by_threads,
 };
-use heap_samples::Trickle;
 use std::alloc::Global;
 use std::process::Abort;
 use std::thread::Threads;
@@ -15,26 +12,6 @@ pub fn expect_fault(rt: &impl Abort, outcome: Result<Image, Fault>) -> Fault {
         Ok(_) => panic!(rt; "an image"),
         Err(fault) => fault,
     }
-}
-
-/// The fault of these bytes, which must be the same if they arrive one at a time.
-pub fn fault_of(rt: &(impl Abort + Threads + Sync), alloc: Global, bytes: &[u8]) -> Fault {
-    let fault = expect_fault(rt, decode_by_threads(alloc, bytes, rt));
-    equal(rt, expect_fault(rt, decode(alloc, bytes)), fault);
-    equal(rt, slow_fault_of(rt, alloc, bytes), fault);
-    fault
-}
-
-/// The fault of these bytes if they arrive one at a time.
-fn slow_fault_of(rt: &impl Abort, alloc: Global, bytes: &[u8]) -> Fault {
-    let mut slow = FromRead::new(Trickle {
-        bytes,
-        step: 1,
-        limit: usize::MAX,
-    });
-    let fault = expect_fault(rt, read_image(alloc, &mut slow));
-    holds(rt, !slow.failed());
-    fault
 }
 
 /// Whether an image has this text.

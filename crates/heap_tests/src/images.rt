@@ -1,11 +1,11 @@
 //! Tests of images that are read, written, taken apart and rebuilt.
 
 mod buffered;
-pub(crate) mod devices;
+mod devices;
 mod failing_once;
 mod from_regions;
 mod length_causes;
-pub(crate) mod refusals;
+mod refusals;
 pub(crate) mod roots;
 mod stores;
 pub(crate) mod texts;
@@ -15,7 +15,7 @@ mod versions;
 use crate::answers::{are_right, comes_through};
 use crate::checks::{equal, equal_bytes, equal_words, holds};
 use heap_image::{
-    Fault, FromRead, Image, ToWrite, decode_by_threads, encode, read_image, write_image,
+    Fault, FromRead, Image, ToWrite, decode_by_threads, encode, header, read_image, write_image,
 };
 use heap_samples::{BASE_LIVE, BASE_WORDS, Base};
 use mark_bitmap::Marks;
@@ -82,6 +82,13 @@ fn check_heap(rt: &impl Abort, image: &Image) {
     let heap = image.heap();
     holds(rt, heap.len() == 32);
     equal(rt, heap.word(20), BASE_WORDS[20]);
+    let word = heap.word(20);
+    let fields = (
+        header::size(word),
+        header::references(word),
+        header::kind(word),
+    );
+    equal(rt, fields, (10, 8, header::OBJECT));
     equal(rt, heap.size_at(20), 10);
     equal(rt, heap.reference(20, 2), 6);
     equal_words(rt, heap.row(21, 29), &BASE_WORDS[21..24]);

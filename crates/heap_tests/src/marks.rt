@@ -3,22 +3,17 @@ ghost use Rattle.std.specs.Prelude.{◌≡◌, ◌≤◌, IfOk};
 ghost use Rattle.object_heap.specs.HeapImage.{heap_words};
 
 mod marking;
-mod reached;
-mod seeded_marks;
 
 use crate::answers::are_right;
 use crate::checks::{equal, holds};
 use crate::images::texts::regions_of;
 use heap_image::{Fault, Image, decode};
-use heap_samples::{BASE_LIVE, Base, DEAD, Object, base_image, image_of, image_text, plain_words};
+use heap_samples::{BASE_LIVE, Base, Object, base_image, image_of, image_text, plain_words};
 use mark_bitmap::Marks;
 use std::alloc::{AllocError, Global};
 use std::process::Abort;
 use std::test::Fail;
 use std::thread::Threads;
-
-/// An object of one word, without references.
-const ONE_WORD: u64 = 0x0100_0000_0000_0001;
 
 /// The marks of the base heap.
 fn base_marks(rt: &impl Abort, alloc: Global) -> Result<Marks, Fail>
@@ -31,7 +26,7 @@ fn base_marks(rt: &impl Abort, alloc: Global) -> Result<Marks, Fail>
 
 /// The image of a heap with this region log and number of words, whose objects have no references and only zeros after
 /// their headers.
-pub fn plain_image(
+fn plain_image(
     threads: &(impl Threads + Sync),
     alloc: Global,
     (region_log, len): (u64, u64),
@@ -49,7 +44,7 @@ pub fn plain_image(
 }
 
 /// The marks of such a heap.
-pub fn plain_marks(
+fn plain_marks(
     rt: &(impl Abort + Threads + Sync),
     alloc: Global,
     sizes: (u64, u64),
@@ -106,6 +101,7 @@ fn check_answers(rt: &impl Abort, marks: &Marks)
     equal(rt, live, [Some(5), None]);
     holds(rt, marks.is_begin(20));
     equal(rt, marks.size_at(20), 10);
+    equal(rt, marks.block_words(), 8);
 }
 
 /// By the marks that this number of workers makes of a heap of 512 words: the number of live words, and whether these
@@ -214,31 +210,6 @@ fn refused_memory_is_reported(rt: HostRuntime) {
     holds(&rt, are_right(&answers));
 }
 
-/// The marks of a heap of 8 words, whose first two objects have one word.
-fn small_marks(alloc: Global, threads: &(impl Threads + Sync)) -> Result<Marks, Fail> {
-    let words = [
-        ONE_WORD,
-        DEAD,
-        ONE_WORD,
-        0x0100_0002_0000_0005,
-        3,
-        4,
-        106,
-        107,
-    ];
-    let image = image_of(alloc, regions_of(3), &words, &[0, 2, 3], threads)?;
-    Ok(Marks::of(alloc, &image)?)
-}
-
-#[test]
-fn an_object_of_one_word_has_both_bits(rt: HostRuntime) -> Result<(), Fail> {
-    let marks = small_marks(rt.alloc(), &rt)?;
-    let both = (0..8).filter(|a| marks.is_begin(*a) && marks.is_end(*a));
-    holds(&rt, both.eq([0, 2].iter().copied()));
-    equal(&rt, marks.block_words(), 8);
-    Ok(())
-}
-
 #[test]
 fn live_bits_of_64_addresses(rt: HostRuntime) -> Result<(), Fail> {
     let objects = [(1, 1), (60, 6), (127, 1)];
@@ -258,15 +229,6 @@ fn block_sums(alloc: Global, marks: &Marks, len: u64) -> Result<Vec<u32>, AllocE
         sums.push(marks.block_live(b))?;
     }
     Ok(sums)
-}
-
-#[test]
-fn blocks_of_one_region(rt: HostRuntime) -> Result<(), Fail> {
-    let objects = [(0, 1), (130, 2), (300, 4), (511, 1)];
-    let marks = plain_marks(&rt, rt.alloc(), (9, 512), &objects)?;
-    let sums = block_sums(rt.alloc(), &marks, 512)?;
-    equal(&rt, sums.as_slice(), [0, 1, 3, 7].as_slice());
-    Ok(())
 }
 
 #[test]

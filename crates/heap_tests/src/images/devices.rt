@@ -1,12 +1,12 @@
 //! Tests of devices that move small pieces or fail at a byte.
-use super::texts::regions_of;
+use super::roots::{object, text_with_roots};
 use crate::answers::expect_fault;
 use crate::checks::{equal, equal_at, equal_bytes, holds};
 use heap_image::{
-    Failed, Fault, FromRead, Image, Intake, Outlet, ToWrite, decode_by_threads, encode, give_all,
+    Failed, Fault, FromRead, Image, Outlet, ToWrite, decode_by_threads, give_all,
     read_image_by_threads, write_image,
 };
-use heap_samples::{Base, Trickle, image_text};
+use heap_samples::{BASE_WORDS, Base, Trickle};
 use std::alloc::Global;
 use std::io;
 use std::io::Write;
@@ -114,28 +114,30 @@ fn a_writer_is_full_at_each_byte(rt: HostRuntime) -> Result<(), Fail> {
     Ok(())
 }
 
-/// Two regions of the largest size are read and written in several pieces, and so are many small ones.
-#[test]
-fn large_heaps_are_read_in_pieces(rt: HostRuntime) -> Result<(), Fail> {
-    let words = Vec::from_iter(rt.alloc(), (0..131_072u64).map(|a| a << 32 | a))?;
-    for region_log in [3, 16] {
-        let text = image_text(rt.alloc(), regions_of(region_log), words.as_slice(), &[])?;
-        let image = read_in_pieces(rt.alloc(), text.as_slice(), &rt)?;
-        equal_bytes(&rt, encode(rt.alloc(), &image)?.as_slice(), text.as_slice());
-    }
-    Ok(())
+/// The fault of this text if its reader fails after it.
+fn broken_fault(rt: &(impl Abort + Threads + Sync), alloc: Global, text: &[u8]) -> Fault {
+    let mut broken = FromRead::new(Trickle {
+        bytes: text,
+        step: 7,
+        limit: text.len(),
+    });
+    expect_fault(rt, read_image_by_threads(alloc, &mut broken, rt))
 }
 
-/// Reads an image whose text arrives in pieces of at most 10,000 bytes.
-fn read_in_pieces(
-    alloc: Global,
-    text: &[u8],
-    threads: &(impl Threads + Sync),
-) -> Result<Image, Fault> {
-    let mut trickle = FromRead::new(Trickle {
-        bytes: text,
-        step: 10_000,
-        limit: usize::MAX,
-    });
-    read_image_by_threads(alloc, &mut trickle, threads)
+#[test]
+fn a_fault_of_an_image_comes_before_one_of_its_reader(rt: HostRuntime) -> Result<(), Fail> {
+    let mut beyond = BASE_WORDS;
+    beyond[23] = 33;
+    let inner = [object(3, 0), object(4, 0), 0, 0, 0, 0, 0, 0];
+    let rows: [(&[u64], &[u64], Fault); 4] = [
+        (&BASE_WORDS, &[4, 33], Fault::Root(1)),
+        (&BASE_WORDS, &[4], Fault::Header(3)),
+        (&inner, &[2, 1], Fault::Overlap(1)),
+        (&beyond, &[21], Fault::Reference(20, 2)),
+    ];
+    for (words, roots, fault) in rows {
+        let text = text_with_roots(rt.alloc(), words, roots)?;
+        equal(&rt, broken_fault(&rt, rt.alloc(), text.as_slice()), fault);
+    }
+    Ok(())
 }

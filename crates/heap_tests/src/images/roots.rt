@@ -1,11 +1,11 @@
-//! Tests of valid and invalid images with roots.
+//! Tests of images with roots.
 use super::texts::base_text;
-use crate::answers::{are_right, comes_through, expect_fault, fault_of, is_text};
+use crate::answers::{are_right, comes_through, is_text};
 use crate::checks::{equal, equal_words, holds, holds_at};
 use heap_image::{
-    Fault, FromRead, Version, decode_by_threads, header, mark_from_roots, read_image_by_threads,
+    Fault, FromRead, Version, decode_by_threads, mark_from_roots, read_image_by_threads,
 };
-use heap_samples::{BASE_LIVE, BASE_ROOTS, BASE_WORDS, Base, Settings, Trickle, rooted_text};
+use heap_samples::{BASE_LIVE, BASE_ROOTS, BASE_WORDS, Base, Settings, rooted_text};
 use std::alloc::{AllocError, Global};
 use std::process::Abort;
 use std::test::Fail;
@@ -22,7 +22,7 @@ pub fn text_with_roots(alloc: Global, words: &[u64], roots: &[u64]) -> Result<Ve
 }
 
 /// Whether an image with roots is read and decoded unchanged, with these live objects.
-pub fn is_live(
+fn is_live(
     rt: &(impl Threads + Sync),
     alloc: Global,
     words: &[u64],
@@ -58,7 +58,7 @@ fn is_decoded(
 }
 
 /// Fails if these words with these roots don't have these live objects. Each row is roots and live objects.
-pub fn try_live(
+fn try_live(
     rt: &(impl Abort + Threads + Sync),
     alloc: Global,
     words: &[u64],
@@ -80,119 +80,6 @@ fn roots_are_read_and_written(rt: HostRuntime) -> Result<(), Fail> {
     let mut words = BASE_WORDS;
     words[2] = 0;
     try_live(&rt, rt.alloc(), &words, &[(&[1], &[0, 5, 12])])?;
-    Ok(())
-}
-
-#[test]
-fn roots_come_in_any_order_and_number(rt: HostRuntime) -> Result<(), Fail> {
-    let rows: [(&[u64], &[u64]); 3] = [
-        (&[13, 1, 13, 0, 6, 21, 21], &BASE_LIVE),
-        (&[0; 32], &[]),
-        (&[21; 32], &BASE_LIVE),
-    ];
-    try_live(&rt, rt.alloc(), &BASE_WORDS, &rows)?;
-    Ok(())
-}
-
-/// The fault of this text if the reader fails after it.
-fn broken_fault(rt: &(impl Abort + Threads + Sync), alloc: Global, text: &[u8]) -> Fault {
-    let mut broken = FromRead::new(Trickle {
-        bytes: text,
-        step: 7,
-        limit: text.len(),
-    });
-    expect_fault(rt, read_image_by_threads(alloc, &mut broken, rt))
-}
-
-/// The faults of a heap: if the reader fails after its text, if it ends there, and if a byte follows.
-fn faults_of(
-    rt: &(impl Abort + Threads + Sync),
-    alloc: Global,
-    words: &[u64],
-    roots: &[u64],
-) -> Result<[Fault; 3], AllocError> {
-    let mut text = text_with_roots(alloc, words, roots)?;
-    let broken = broken_fault(rt, alloc, text.as_slice());
-    let whole = fault_of(rt, alloc, text.as_slice());
-    text.push(0)?;
-    Ok([broken, whole, fault_of(rt, alloc, text.as_slice())])
-}
-
-/// Fails if these words with these roots have another fault. Each row is roots and a fault.
-fn try_refused(
-    rt: &(impl Abort + Threads + Sync),
-    alloc: Global,
-    words: &[u64],
-    rows: &[(&[u64], Fault)],
-) -> Result<(), AllocError> {
-    for (roots, fault) in rows {
-        equal(rt, faults_of(rt, alloc, words, roots)?, [*fault; 3]);
-    }
-    Ok(())
-}
-
-#[test]
-fn roots_outside_the_heap_are_reported_first(rt: HostRuntime) -> Result<(), Fail> {
-    let rows: [(&[u64], Fault); 4] = [
-        (&[4, 33], Fault::Root(1)),
-        (&[21, 0, u64::MAX, 33], Fault::Root(2)),
-        (&[32], Fault::Header(31)),
-        (&[33; 33], Fault::Length),
-    ];
-    try_refused(&rt, rt.alloc(), &BASE_WORDS, &rows)?;
-    Ok(())
-}
-
-#[test]
-fn unsound_objects_are_rejected(rt: HostRuntime) -> Result<(), Fail> {
-    let mut words = BASE_WORDS;
-    let rows: [(&[u64], Fault); 2] = [(&[4], Fault::Header(3)), (&[15, 4, 32], Fault::Header(3))];
-    try_refused(&rt, rt.alloc(), &words, &rows)?;
-    // The object is reached from a root, and from two objects.
-    (words[1], words[6]) = (4, 4);
-    try_refused(&rt, rt.alloc(), &words, &[(&[4, 21, 4], Fault::Header(3))])?;
-    // A header comes before a reference out of the heap.
-    (words[1], words[6], words[23], words[12]) = (6, 13, 33, 0);
-    try_refused(&rt, rt.alloc(), &words, &[(&[21], Fault::Header(12))])?;
-    Ok(())
-}
-
-#[test]
-fn references_out_of_the_heap_are_rejected(rt: HostRuntime) -> Result<(), Fail> {
-    let mut words = BASE_WORDS;
-    (words[23], words[24]) = (33, u64::MAX);
-    try_refused(&rt, rt.alloc(), &words, &[(&[21], Fault::Reference(20, 2))])?;
-    words[1] = 33;
-    try_refused(
-        &rt,
-        rt.alloc(),
-        &words,
-        &[(&[21, 1], Fault::Reference(0, 0))],
-    )?;
-    // An object that isn't reachable may have any references.
-    (words[1], words[2]) = (6, 0);
-    try_live(&rt, rt.alloc(), &words, &[(&[6], &[0, 5, 12])])?;
-    Ok(())
-}
-
-#[test]
-fn only_reachable_objects_must_not_overlap(rt: HostRuntime) -> Result<(), Fail> {
-    let inner = [object(3, 0), object(4, 0), 0, 0, 0, 0, 0, 0];
-    try_live(&rt, rt.alloc(), &inner, &[(&[1], &[0]), (&[2], &[1])])?;
-    try_refused(&rt, rt.alloc(), &inner, &[(&[2, 1], Fault::Overlap(1))])?;
-    let small = [
-        object(1, 0),
-        999,
-        object(2, 0),
-        object(5, 2),
-        3,
-        4,
-        106,
-        107,
-    ];
-    let rows: [(&[u64], Fault); 2] = [(&[3, 4], Fault::Overlap(3)), (&[4], Fault::Overlap(3))];
-    try_refused(&rt, rt.alloc(), &small, &rows)?;
-    try_live(&rt, rt.alloc(), &small, &[(&[3, 1], &[0, 2])])?;
     Ok(())
 }
 
@@ -222,23 +109,6 @@ fn mark_from_roots_finds_the_same_objects(rt: HostRuntime) -> Result<(), Fail> {
         let found = mark_base(rt.alloc(), &rt, roots).err();
         equal(&rt, found, Some(fault));
     }
-    Ok(())
-}
-
-/// Data of an object, a dead object and a filler contain words that look like headers and references.
-#[test]
-fn what_looks_like_an_object_is_dead(rt: HostRuntime) -> Result<(), Fail> {
-    let words = [
-        object(3, 1),
-        7,
-        object(9, 8),
-        object(2, 1),
-        99,
-        header::filler(1),
-        object(2, 0),
-        object(1, 0),
-    ];
-    holds(&rt, is_live(&rt, rt.alloc(), &words, &[1], &[0, 6])?);
     Ok(())
 }
 

@@ -4,16 +4,10 @@ use std::alloc::{AllocError, Global};
 
 /// The first 32 bytes of an image of version 1 with allowance 0.
 pub fn front(region_log: u32, live_count: u32, words: u64) -> [u8; 32] {
-    front_in(1, region_log, live_count, words)
-}
-
-/// The first 32 bytes of an image of this version, 1 to 9, with allowance 0.
-pub fn front_in(version: u8, region_log: u32, count: u32, words: u64) -> [u8; 32] {
     let mut front = [0; 32];
-    front[..7].copy_from_slice(b"PCHEAP0");
-    front[7] = b'0'.wrapping_add(version);
+    front[..8].copy_from_slice(b"PCHEAP01");
     front[8..12].copy_from_slice(&region_log.to_le_bytes());
-    front[12..16].copy_from_slice(&count.to_le_bytes());
+    front[12..16].copy_from_slice(&live_count.to_le_bytes());
     front[16..24].copy_from_slice(&words.to_le_bytes());
     front
 }

@@ -8,7 +8,7 @@ use heap_image::{
     Fault, FromRead, Image, Intake, Outlet, ToWrite, Version, decode_by_threads, upgrade,
     upgrade_stream, upgrade_to,
 };
-use heap_samples::{BASE_LIVE, BASE_WORDS, Base, Settings, Trickle, image_text, rooted_text};
+use heap_samples::{BASE_LIVE, BASE_WORDS, Base, Settings, Trickle, rooted_text};
 use std::alloc::{AllocError, Global};
 use std::process::Abort;
 use std::test::Fail;
@@ -18,51 +18,33 @@ use std::thread::Threads;
 const ROOTS: [u64; 4] = [1, 6, 13, 21];
 
 /// Upgrades a stream, and returns the result and the bytes that are written.
-pub fn upgrade_bytes(alloc: Global, bytes: &[u8]) -> (Result<u32, Fault>, Vec<u8>) {
+fn upgrade_bytes(alloc: Global, bytes: &[u8]) -> (Result<u32, Fault>, Vec<u8>) {
     let mut writer = ToWrite::new(Vec::new(alloc));
     let answer = upgrade_stream(alloc, &mut FromRead::new(bytes), &mut writer);
     (answer, writer.into_inner())
 }
 
+/// Fails if the upgrade of this image, which has four roots, is another one.
+fn check_kept(rt: &impl Abort, alloc: Global, text: &[u8]) {
+    let (count, again) = upgrade_bytes(alloc, text);
+    equal(rt, count, Ok(4));
+    equal_bytes(rt, again.as_slice(), text);
+}
+
 #[test]
 fn the_base_heap_is_upgraded_once(rt: HostRuntime) -> Result<(), Fail> {
-    let (count, text) = upgrade_bytes(rt.alloc(), base_text(rt.alloc())?.as_slice());
+    let (count, mut text) = upgrade_bytes(rt.alloc(), base_text(rt.alloc())?.as_slice());
     equal(&rt, count, Ok(4));
     equal(&rt, text.len(), 320);
     let wanted = text_with_roots(rt.alloc(), &BASE_WORDS, &ROOTS)?;
     equal_bytes(&rt, text.as_slice(), wanted.as_slice());
     let image = decode_by_threads(rt.alloc(), text.as_slice(), &rt)?;
     equal_words(&rt, image.live(), &BASE_LIVE);
-    let (count, again) = upgrade_bytes(rt.alloc(), text.as_slice());
-    equal(&rt, count, Ok(4));
-    equal_bytes(&rt, again.as_slice(), text.as_slice());
-    Ok(())
-}
-
-#[test]
-fn a_heap_with_no_object_has_no_root(rt: HostRuntime) -> Result<(), Fail> {
-    let words = [999; 32];
-    let old = image_text(rt.alloc(), Settings::of_base(0), &words, &[])?;
-    let (count, text) = upgrade_bytes(rt.alloc(), old.as_slice());
-    equal(&rt, count, Ok(0));
-    equal(&rt, text.len(), 288);
-    let wanted = text_with_roots(rt.alloc(), &words, &[])?;
-    equal_bytes(&rt, text.as_slice(), wanted.as_slice());
-    Ok(())
-}
-
-#[test]
-fn no_proper_prefix_of_an_image_is_upgraded(rt: HostRuntime) -> Result<(), Fail> {
-    let text = base_text(rt.alloc())?;
-    for n in 0..text.len() {
-        let (answer, written) = upgrade_bytes(rt.alloc(), &text[..n]);
-        let fault = if n < 32 {
-            Fault::TruncatedHeader
-        } else {
-            Fault::TruncatedBody
-        };
-        equal_at(&rt, (answer, written.len()), (Err(fault), 0), n);
+    check_kept(&rt, rt.alloc(), text.as_slice());
+    if let Some(digit) = text.get_mut(7) {
+        *digit = b'3';
     }
+    check_kept(&rt, rt.alloc(), text.as_slice());
     Ok(())
 }
 
