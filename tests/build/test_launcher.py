@@ -360,11 +360,11 @@ def try_changes_meanwhile(it: Launcher, copy: pathlib.Path) -> None:
 
 def try_above(it: Launcher, copy: pathlib.Path) -> None:
     """Crates that are named, with those above them and their tests."""
-    change(copy, "work_order", "Changed.")
-    said, calls = it.call([copy / "prove", "work_order"], 0, "prove work_order")
-    wanted = {"lib work_order", "lib heap_commands", "run pcompact"} | {
-        f"test {name}" for name in crate_names() if name.endswith("_tests") and "work_order" in below_of(name)}
-    it.check(wanted <= set(re.findall(r"\w+ \w+", calls)), f"prove work_order: {calls} and not {wanted}")
+    change(copy, "heap_map", "Changed.")
+    said, calls = it.call([copy / "prove", "heap_map"], 0, "prove heap_map")
+    wanted = {"lib heap_map", "lib heap_commands", "run pcompact", "test tool_tests"} | {
+        f"test {name}" for name in crate_names() if name.endswith("_tests") and "heap_map" in below_of(name)}
+    it.check(wanted <= set(re.findall(r"\w+ \w+", calls)), f"prove heap_map: {calls} and not {wanted}")
     said, _ = it.call([copy / "prove", "no_crate"], 2, "prove no_crate")
     it.check("no crate no_crate" in said, f"an unknown crate: {said!r}")
     it.call([copy / "prove", "--nothing"], 2, "prove with a wrong word")

@@ -10,6 +10,7 @@ usage: tests/cli/test_commands.py [PROGRAM]
 import dataclasses
 import os
 import pathlib
+import re
 import sys
 
 # Finds the package `tests` from any folder, and writes nothing beside its modules.
@@ -368,7 +369,29 @@ REFUSED = [
     ("schedule 1 2\n0 claim 0 yes\n0 copy 0 8 ok\n0 drain 0 1 last\n0 drain 0 1 last\n", 5),
     ("schedule 1 2\n0 claim 0 yes\n0 copy 0 8 ok\n0 complete 0 ok\n", 4),
     ("schedule 1 2\n0 claim 0 yes\n0 copy 0 8 ok\n0 drain 0 1 last\n0 copy 0 1 ok\n", 5),
+    ("schedule 1 2\n0 claim 0 yes\n0 copy 0 7 ok\n0 drain 0 1 ?\n", 4),
     ("schedule 1 2\n0 claim 4 ?\n", 2), ("schedule 1 2\n0 settle 0 more\n", 2),
+]
+# Schedules, each with all replies, that are followed to their end and leave regions unsettled.
+ANSWERED = [
+    "schedule 1 1\n0 claim 0 yes\n0 claim 1 no\n",
+    "schedule 1 1\n0 claim 1 no\n0 claim 0 yes\n0 look 3 out2\n0 copy 0 6 ok\n0 poll more\n",
+    """schedule 1 2
+0 look 1 open1
+0 look 3 out2
+0 claim 3 no
+0 claim 0 yes
+1 claim 0 no
+0 copy 0 8 ok
+0 drain 0 1 last
+1 claim 1 yes
+1 copy 1 8 ok
+1 drain 1 3 notlast
+0 look 3 out1
+1 drain 1 2 last
+1 complete 1 ok
+1 settle 1 more
+""",
 ]
 
 
@@ -400,6 +423,10 @@ def try_malformed_schedules(tried: Tried) -> None:
 
 def try_refused_schedules(tried: Tried) -> None:
     try_refused_lines(tried, REFUSED)
+    # One worker completes or settles what another one fills.
+    for event in ("complete", "settle"):
+        before, _ = ANSWERED[-1].split(f"1 {event} 1")
+        try_refused_lines(tried, [(f"{before}0 {event} 1 ?\n", before.count("\n") + 1)])
     # A schedule of another image: there region 0 gets 7 words.
     tried.write("schedule", ONE_WORKER)
     tried.write("image", image(SMALL, [0, 2, 3]))
@@ -416,8 +443,11 @@ def try_edited_schedules(tried: Tried) -> None:
 
 
 def try_open_replies(tried: Tried) -> None:
-    tried.write("schedule", "schedule 1 1\n0 claim 0 yes\n0 claim 1 ?\n")
-    tried.run("replay base schedule", Answer(0, "schedule 1 1\n0 claim 0 yes\n0 claim 1 no\nopen\n"))
+    """Lines without a reply get the one that is right."""
+    for text in ANSWERED:
+        for asked in (text, re.sub("(?m)^([01] .*) .*$", r"\1 ?", text)):
+            tried.write("schedule", asked)
+            tried.run("replay base schedule", Answer(0, f"{text}open\n"))
 
 
 def try_files(tried: Tried) -> None:

@@ -108,7 +108,7 @@ def try_imports(tried: Tried) -> None:
     tried.run("import dump out", imported(DUMP))
     for log in (3, 9, 16, 17, 20):
         tried.run(f"import dump out --region-log {log}", imported(DUMP, region_log=log))
-    for version, log in ((2, 3), (2, 16), (3, 3), (3, 9), (3, 20)):
+    for version, log in ((2, 3), (2, 9), (2, 16), (3, 3), (3, 9), (3, 20)):
         tried.run(f"import dump out --version {version} --region-log {log}", imported(DUMP, region_log=log, version=version))
         tried.run(f"import dump out --version {version} --region-log {log} --live-only",
                   imported(DUMP, region_log=log, live_only=True, version=version))

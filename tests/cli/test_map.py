@@ -93,6 +93,14 @@ def try_rows(tried: Tried) -> None:
     for width in (2, 3):
         tried.run(f"map image --letters --width {width}", Answer(0, (
             f"words 32 live 0 dead 32 prefix 0 top 0 filled 0\nbefore |{'_' * width}|\n       |{'-' * width}|\n{legend('-')}")))
+    # Cells of nine words, of which so many live: shades are thirds.
+    lives = {9 * cell: live for cell, live in enumerate((0, 1, 2, 3, 5, 6, 8, 9)) if live}
+    words = [999] * 72
+    for a, live in lives.items():
+        words[a:a + live] = [model.header(live, 0), *[0] * (live - 1)]
+    tried.write("image", image(words, list(lives)))
+    tried.run("map image --letters --width 8", Answer(0, (
+        f"words 72 live 34 dead 38 prefix 0 top 34 filled 5\nbefore |_..::++#|\n       |mmmmmmmm|\n{legend('m')}")))
 
 
 def try_words(tried: Tried) -> None:
@@ -272,10 +280,13 @@ def try_names(tried: Tried) -> None:
         tried.run(["map", f"./{name}", "--svg", "drawn"], Answer(0, WHOLE.splitlines(True)[0]))
         if name not in [text.text for text in drawing(tried, "drawn").iter(f"{SVG}text")]:
             tried.is_wrong(f"a drawing hasn't the name {name!r}")
-    tried.write("a\tb", image(WORDS, LIVE, 2))
-    tried.run(["map", "a\tb", "--svg", "drawn"], Answer(0, WHOLE.splitlines(True)[0]))
-    if "a?b" not in [text.text for text in drawing(tried, "drawn").iter(f"{SVG}text")]:
-        tried.is_wrong("a drawing shows a tab in a name otherwise")
+    (tried.folder / "heaps" / "small").mkdir(parents=True)
+    for name, shown in (("a\tb", "a?b"), ("line\nfeed\x7f", "line?feed?"), ("\ufffe\uffff\ufffd", "??\ufffd"),
+                        ("heaps/small/base.pcheap", "base.pcheap"), ('a<b>&"c"', 'a<b>&"c"')):
+        tried.write(name, image(WORDS, LIVE, 2))
+        tried.run(["map", name, "--svg", "drawn"], Answer(0, WHOLE.splitlines(True)[0]))
+        if shown not in [text.text for text in drawing(tried, "drawn").iter(f"{SVG}text")]:
+            tried.is_wrong(f"a drawing shows the name {name!r} otherwise")
 
 
 def try_drawing_of_words(tried: Tried) -> None:

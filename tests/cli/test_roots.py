@@ -272,6 +272,11 @@ def try_rooted_schedules(tried: Tried) -> None:
     tried.run("replay rooted schedule", Answer(0, "schedule 1 1\n0 claim 0 yes\n0 claim 1 no\nopen\n"))
     tried.write("schedule", "schedule 1 1\n0 claim 1 yes\n")
     tried.run("replay rooted schedule", fault("14 schedule line 2"))
+    # Nothing lives, and nothing is to be done.
+    tried.write("schedule", "schedule 1 1\n")
+    for roots in ([], [0]):
+        tried.write("image", rooted(WORDS, roots))
+        tried.run("replay image schedule", Answer(0, "schedule 1 1\nfinished\n"))
     # The schedule of a heap of which less lives.
     tried.write("image", rooted(THREE, [1]))
     tried.write("schedule", ONE_WORKER)

@@ -4,11 +4,14 @@
 usage: tests/cli/test_text.py [PROGRAM]
 """
 import dataclasses
+import fcntl
 import functools
+import os
 import pathlib
 import resource
 import subprocess
 import sys
+import termios
 
 # Finds the package `tests` from any folder, and writes nothing beside its modules.
 sys.dont_write_bytecode = True
@@ -21,6 +24,8 @@ from tests.support.program import TOP, Answer, Tried, fault, usage
 
 FULL = pathlib.Path("/dev/full")
 FAULT_13 = "13 input or output"
+# The program reads this number of bytes of a text at a time.
+PIECE = 65536
 ROOTED = (TOP / "examples" / "rooted.pcheap").read_bytes()
 HEAP = """\
 @0 object 3 refs @5 @20
@@ -55,6 +60,19 @@ words 8
 allowance 18446744073709551615
 roots
 @0 dead 8 words 0 1 2 3 4 5 6 18446744073709551615
+"""
+# A heap of one region, all of whose words are dead; and one of two regions of the largest size of version 1, with an object across
+# their border.
+DEAD_TEXT = "heap version 1\nregion-log 3\nwords 8\nallowance 0\n@0 dead 8 of 7\n"
+CROSSING = encode(Image(1, 16, 0, [*[7] * 65535, header(2, 0), 5, *[0] * 65535], [65535]))
+CROSSING_TEXT = """\
+heap version 1
+region-log 16
+words 131072
+allowance 0
+@0 dead 65535 of 7
+@65535 object 2 data 5
+@65537 dead 65535 of 0
 """
 
 # In the text of the base heap with roots: what is changed into what, the line that is told, and what it says.
@@ -121,7 +139,9 @@ def mistake(line: int, expected: str) -> Answer:
 
 def try_both_ways(tried: Tried) -> None:
     for content, text, counts in ((BASE, BASE_TEXT, BASE_COUNTS), (ROOTED, ROOTED_TEXT, ROOTED_COUNTS),
-                                  (NO_OBJECTS, NO_OBJECTS_TEXT, "words 8 roots 0 live 0\n")):
+                                  (NO_OBJECTS, NO_OBJECTS_TEXT, "words 8 roots 0 live 0\n"),
+                                  (encode(Image(1, 3, 0, [7] * 8, [])), DEAD_TEXT, "words 8 roots 0 live 0\n"),
+                                  (CROSSING, CROSSING_TEXT, "words 131072 roots 0 live 1\n")):
         tried.write("heap", content)
         tried.run("text heap", Answer(0, text))
         tried.run("text --verbose heap", Answer(0, text))
@@ -243,6 +263,21 @@ def try_endless(tried: Tried) -> None:
         tried.run("assemble /dev/stdin made", mistake(1, VERSION), stdin=lines.stdout, preexec_fn=bound)
         lines.kill()
     tried.run("assemble /dev/zero made", mistake(1, "a newline at the end of the line"), preexec_fn=bound)
+    try_first_piece(tried)
+
+
+def try_first_piece(tried: Tried) -> None:
+    """A pipe that stays open is read no further than the first piece, where the first line is wrong."""
+    for byte, expected in ((b"\0", "a newline at the end of the line"), (b"\n", VERSION)):
+        reading, writing = os.pipe()
+        fcntl.fcntl(writing, fcntl.F_SETPIPE_SZ, 4 * PIECE)
+        os.write(writing, byte * 4 * PIECE)
+        tried.run("assemble /dev/stdin made", mistake(1, expected), stdin=reading)
+        left = int.from_bytes(fcntl.ioctl(reading, termios.FIONREAD, bytes(4)), sys.byteorder)
+        if left != 3 * PIECE:
+            tried.is_wrong(f"of an endless text {4 * PIECE - left} bytes are read")
+        os.close(writing)
+        os.close(reading)
 
 
 GROUPS = (try_both_ways, try_mistakes, try_files, try_words, try_largest, try_limits, try_endless)

@@ -182,6 +182,11 @@ def try_schedules(tried: Tried) -> None:
         ("schedule 1 2\n0 claim 4 ?\n", 2, not_allowed), ("schedule 1 2\n0 settle 0 more\n", 2, not_allowed),
         ("schedule 1 1\n0 claim 0 yes\n0 copy 0 9 ok\n", 3, not_allowed),
         ("schedule 1 1\n0 claim 0 yes\n0 drain 0 1 last\n", 3, not_allowed),
+        ("schedule 1 2\n0 claim 0 yes\n0 drain 0 1 ?\n", 3, not_allowed),
+        ("schedule 1 1\n0 claim 4294967295 ?\n0 poll all\n", 2, not_allowed), ("schedule 1 1\n0 claim 4294967296 ?\n", 2, malformed),
+        ("schedule 1 2\n0 claim 0 yes\n0 claim 1 yes\n", 3, ("reason the reply is another", "reply no")),
+        ("schedule 1 2\n0 claim 0 yes\n1 claim 0 yes\n", 3, ("reason the reply is another", "reply no")),
+        ("schedule 1 2\n0 claim 3 no\n1 poll all\n", 3, ("reason the reply is another", "reply more")),
     ]
     replies = [("0 claim 1 yes", "no"), ("0 claim 0 no", "yes"), ("0 look 1 open2", "open1"), ("0 look 3 out0", "out2"),
                ("0 poll all", "more")]

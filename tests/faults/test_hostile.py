@@ -3,8 +3,9 @@
 
 A stranger who may write in OUT's folder swaps the new file for a link; OUT, SCHEDULE or FILE is standard output, as a file, a
 pipe and a file at whose end is written; the size of files is limited; names break lines; OUT and SCHEDULE have the names of
-new files; another process writes OUT meanwhile; two files of two devices have one number. What the program does with new
-files is told by a library that is loaded before the C library's. Ends with status 1 where something is another way.
+new files; another process writes OUT meanwhile; a dump changes between its two readings; two files of two devices have one
+number. What the program does with new files is told by a library that is loaded before the C library's. Ends with status 1 where
+something is another way.
 
 usage: tests/faults/test_hostile.py [PROGRAM]      (needs a C compiler; a part needs root and unshare)
 """
@@ -23,6 +24,7 @@ sys.path.insert(0, str(pathlib.Path(__file__).resolve().parents[2]))
 from tests.cli.test_import import DUMP
 from tests.models.dump import make
 from tests.models.image import FRONT, header
+from tests.support import dump_writer
 from tests.support.cases import BASE, COLLECTED, COMPACTED, ONE_WORKER, WORDS, image, upgraded, with_word
 from tests.support.program import PRELOAD, Answer, Tried, built, fault, launcher, usage
 
@@ -282,6 +284,32 @@ def upgraded_of(it: Hostile, name: str) -> bytes:
     return it.tried.read(f"{name}-upgraded")
 
 
+def dump_of(references: list[int], lacks: bool = False) -> bytes:
+    """A dump with an instance, an array of these references, and an array of bytes, which it may lack."""
+    to = dump_writer.Writer()
+    heap = to.root(0x05, 312) + to.class_(256, 0, [2, 10], [(2, 312)]) + to.instance(312, 256, [(2, 4472), (10, 0x01020304)])
+    heap += to.references(336, references) + (b"" if lacks else to.primitives(4472, 8, list(range(1, 10))))
+    return to.record(0x0C, heap).text()
+
+
+def try_changed_dumps(it: Hostile) -> None:
+    """A dump that has another array of references at its second reading, or lacks its last object there."""
+    first = dump_of([312, 0, 999])
+    for second in (first, dump_of([312, 0]), dump_of([312, 0, 999, 0]), dump_of([312, 0, 999], lacks=True)):
+        for live_only in (False, True):
+            it.lay(dump=first, second=second)
+            words = "import dump out --region-log 3 --allowance 5" + " --live-only" * live_only
+            done, _ = it.watch(words, AGAIN="second")
+            if second == first:
+                made = make(first, 3, 5, live_only)
+                it.expect((done.returncode, done.stdout) == (0, f"{made.line}\n"), f"pcompact {words}: {done}")
+                it.holds(f"pcompact {words}", dump=first, second=second, out=made.image)
+            else:
+                said = "pcompact: byte 192: the dump changed while it was read\n"
+                it.expect((done.returncode, done.stdout, done.stderr) == (1, "", said), f"pcompact {words}, changed: {done}")
+                it.holds(f"pcompact {words}, changed", dump=first, second=second)
+
+
 def try_devices(it: Hostile) -> None:
     """Files of two devices that have one number are two files."""
     if os.geteuid() != 0 or subprocess.run(["unshare", "-m", "true"], capture_output=True).returncode:
@@ -311,7 +339,7 @@ def main() -> int:
         subprocess.run(["cc", "-shared", "-fPIC", "-O2", "-o", library, PRELOAD / "stranger.c"], check=True)
         it = Hostile(tried, library)
         for group in (try_steps, try_swapped, try_private, try_standard_output, try_limited, try_names, try_own_names,
-                      try_meanwhile, try_devices):
+                      try_meanwhile, try_changed_dumps, try_devices):
             group(it)
         skipped = f", {it.skipped} skipped" if it.skipped else ""
         print(f"{max(tried.count - tried.wrong, 0)} passed, {tried.wrong} failed{skipped}")

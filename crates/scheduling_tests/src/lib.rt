@@ -6,8 +6,6 @@
 #[cfg(test)]
 mod boards;
 #[cfg(test)]
-mod causes;
-#[cfg(test)]
 mod checks;
 #[cfg(test)]
 mod recorder;
@@ -17,8 +15,6 @@ mod replays;
 mod rooted;
 #[cfg(test)]
 mod schedulers;
-#[cfg(test)]
-mod schedules;
 #[cfg(test)]
 mod tables;
 #[cfg(test)]

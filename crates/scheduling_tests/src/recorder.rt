@@ -4,7 +4,7 @@ ghost use Rattle.scheduler.specs.MoveTable.{region_count};
 ghost use Rattle.claim_board.specs.Recorders.{moves as moves_of, worker_count};
 
 use crate::boards::{BASE_FILLED, BASE_PAIRS, is_claimed};
-use crate::checks::{equal, equal_items, expect_memory_fault, holds};
+use crate::checks::{equal, equal_items, expect_memory_fault};
 use crate::replays::RECORDED;
 use claim_board::{Desk, Drained, Recorder, Ticket};
 use heap_image::Fault;
@@ -129,15 +129,6 @@ fn record_base<W: Wait>(
     let answers = fill_base(&setting, wait)?;
     let all = setting.recorder.poll(&mut 0, wait)?;
     Ok((answers, all, text_of(alloc, setting)?))
-}
-
-#[test]
-fn one_worker_records_the_base_heap(rt: HostRuntime) -> Result<(), Fail> {
-    let (answers, all, text) = record_base(rt.alloc(), &rt)?;
-    equal(&rt, answers, [(true, false), (false, false), (true, true)]);
-    holds(&rt, all);
-    equal_items(&rt, text.as_slice(), RECORDED.as_bytes());
-    Ok(())
 }
 
 /// Fills region 0 by the last worker, and lets the other worker look at it.

@@ -1,14 +1,14 @@
-//! Checks and replays of schedules of the base heap.
-use crate::checks::{equal_at, equal_items, expect_memory_fault, holds};
+//! Checks and replays of schedules of the base heap. `tests/cli/test_commands.py` has the replies, and other refused lines.
+use crate::checks::{equal_at, expect_memory_fault};
 use heap_image::{Fault, decode_by_threads, encode};
 use heap_samples::{Base, MOVED_LIVE, MOVED_WORDS, Settings, image_text};
-use history::{End, Replayed, check, read_schedule, replay, write_schedule};
+use history::{End, Replayed, check, explain, read_schedule, replay};
 use scheduler::Schedule;
 use std::alloc::{AllocError, Global};
 use std::process::Abort;
 use std::test::Fail;
 use std::thread::Threads;
-use summary::Survey;
+use summary::{Plan, Survey};
 
 /// The words of the compaction of the base heap with an allowance of 2 dead words.
 pub const WITH_PREFIX: [u64; 32] = [
@@ -95,12 +95,6 @@ pub const BY_TWO: &str = "schedule 1 2
 fn survey_of(alloc: Global, threads: &(impl Threads + Sync), text: &[u8]) -> Result<Survey, Fault> {
     let image = decode_by_threads(alloc, text, threads)?;
     Survey::of(alloc, &image, threads)
-}
-
-/// Surveys the base heap.
-pub fn base_survey(alloc: Global, threads: &(impl Threads + Sync)) -> Result<Survey, Fault> {
-    let base = Base::WithLiveList.text(alloc, 0)?;
-    survey_of(alloc, threads, base.as_slice())
 }
 
 /// Replays a schedule over the image with these bytes.
@@ -236,92 +230,18 @@ fn check_courses(
 }
 
 #[test]
-fn a_schedule_finishes_only_with_its_last_line(rt: HostRuntime) -> Result<(), Fail> {
+fn check_and_replay_agree(rt: HostRuntime) -> Result<(), Fail> {
     let open = RECORDED.strip_suffix("0 settle 2 all\n").ok_or("a line")?;
-    let rows = [(RECORDED, Course::Finishes), (open, Course::StaysOpen)];
+    let rows = [
+        (RECORDED, Course::Finishes),
+        (open, Course::StaysOpen),
+        (
+            "schedule 1 1\n0 claim 0 yes\n0 claim 1 yes\n",
+            Course::IsRefused(3),
+        ),
+        ("schedule 1 2\n0 claim 4 ?\n", Course::IsRefused(2)),
+    ];
     Ok(check_courses(rt.alloc(), &rt, &rows)?)
-}
-
-/// Schedules with a refused line, and the number of the first such line.
-const REFUSED: [(&str, Course); 11] = [
-    (
-        "schedule 1 1\n0 claim 0 yes\n0 claim 1 yes\n",
-        Course::IsRefused(3),
-    ),
-    (
-        "schedule 1 1\n0 claim 0 yes\n0 drain 0 1 last\n",
-        Course::IsRefused(3),
-    ),
-    (
-        "schedule 1 1\n0 claim 0 yes\n0 copy 0 9 ok\n",
-        Course::IsRefused(3),
-    ),
-    (
-        "schedule 1 2\n0 claim 0 yes\n1 claim 0 yes\n",
-        Course::IsRefused(3),
-    ),
-    (
-        "schedule 1 2\n0 claim 0 yes\n0 copy 0 8 ok\n1 drain 0 1 last\n",
-        Course::IsRefused(4),
-    ),
-    (
-        "schedule 1 2\n0 claim 0 yes\n0 copy 0 8 ok\n0 drain 0 1 last\n0 drain 0 1 last\n",
-        Course::IsRefused(5),
-    ),
-    (
-        "schedule 1 2\n0 claim 0 yes\n0 copy 0 8 ok\n0 complete 0 ok\n",
-        Course::IsRefused(4),
-    ),
-    (
-        "schedule 1 2\n0 claim 0 yes\n0 copy 0 8 ok\n0 drain 0 1 last\n0 copy 0 1 ok\n",
-        Course::IsRefused(5),
-    ),
-    (
-        "schedule 1 2\n0 claim 0 yes\n0 copy 0 7 ok\n0 drain 0 1 ?\n",
-        Course::IsRefused(4),
-    ),
-    ("schedule 1 2\n0 claim 4 ?\n", Course::IsRefused(2)),
-    ("schedule 1 2\n0 settle 0 more\n", Course::IsRefused(2)),
-];
-
-#[test]
-fn the_first_refused_line_is_named(rt: HostRuntime) -> Result<(), Fail> {
-    Ok(check_courses(rt.alloc(), &rt, &REFUSED)?)
-}
-
-/// Schedules, and the schedules of their replays.
-const REPLAYS: [(&str, &str); 3] = [
-    (RECORDED, RECORDED),
-    (
-        "schedule 1 1\n0 claim 0 yes\n0 claim 1 ?\n",
-        "schedule 1 1\n0 claim 0 yes\n0 claim 1 no\n",
-    ),
-    (
-        "schedule 1 1\n0 claim 1 ?\n0 claim 0 ?\n0 look 3 ?\n0 copy 0 6 ?\n0 poll ?\n",
-        "schedule 1 1\n0 claim 1 no\n0 claim 0 yes\n0 look 3 out2\n0 copy 0 6 ok\n0 poll more\n",
-    ),
-];
-
-/// The schedule's text after a replay, and whether some region is left unsettled.
-fn replay_text(
-    alloc: Global,
-    threads: &(impl Threads + Sync),
-    lines: &str,
-) -> Result<(Vec<u8>, bool), Fault> {
-    let schedule = read_schedule(alloc, lines.as_bytes())?;
-    let all = replay_on_base(alloc, threads, &schedule)?;
-    let is_open = matches!(all.ended, End::Open);
-    Ok((write_schedule(alloc, &all.lines)?, is_open))
-}
-
-#[test]
-fn a_replay_fills_in_each_open_reply(rt: HostRuntime) -> Result<(), Fail> {
-    for (row, (lines, wanted)) in REPLAYS.iter().enumerate() {
-        let (found, is_open) = replay_text(rt.alloc(), &rt, lines)?;
-        equal_items(&rt, found.as_slice(), wanted.as_bytes());
-        equal_at(&rt, is_open, row > 0, row);
-    }
-    Ok(())
 }
 
 /// Whether a schedule of two workers finishes over the base heap with an allowance of 2 dead words, and makes fillers.
@@ -333,20 +253,21 @@ fn comes_through(alloc: Global, threads: &(impl Threads + Sync)) -> Result<bool,
     Ok(is_settled && is_moved)
 }
 
-/// Whether `check` says that this schedule finishes.
+/// Whether `check` says that this schedule finishes, and `explain` that none of its lines is refused.
 fn is_settled(
     alloc: Global,
     threads: &(impl Threads + Sync),
     before: &[u8],
 ) -> Result<bool, Fault> {
     let schedule = read_schedule(alloc, BY_TWO.as_bytes())?;
-    check_on(alloc, threads, before, &schedule)
+    let survey = survey_of(alloc, threads, before)?;
+    is_taken(alloc, survey.plan(), &schedule)
 }
 
-#[test]
-fn a_prefix_gets_its_fillers(rt: HostRuntime) -> Result<(), Fail> {
-    holds(&rt, comes_through(rt.alloc(), &rt)?);
-    Ok(())
+/// Whether both say so with this plan.
+fn is_taken(alloc: Global, plan: &Plan, schedule: &Schedule) -> Result<bool, Fault> {
+    let refused = explain(alloc, plan, schedule)?;
+    Ok(check(alloc, plan, schedule)? && refused.is_none())
 }
 
 /// The script tests/build/test_crate_allocations.sh runs this with each allocation refused in turn.

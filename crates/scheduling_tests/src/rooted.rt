@@ -1,14 +1,31 @@
 //! Replays over heaps with roots.
-use crate::checks::{equal_at, expect_memory_fault};
+use crate::checks::expect_memory_fault;
 use crate::replays::{BY_TWO, RECORDED, WITH_PREFIX, finishes};
 use heap_image::Fault;
 use heap_samples::{BASE_WORDS, MOVED_WORDS, Settings, rooted_text};
 use std::alloc::Global;
-use std::test::Fail;
 use std::thread::Threads;
 
 /// The words of a heap with regions of 8 words, and its roots.
 type Rooted<'a> = (&'a [u64; 32], &'a [u64]);
+
+/// A schedule, an allowance, and a heap with it before and after the replay.
+type Slide<'a> = ((&'a str, u64), Rooted<'a>, Rooted<'a>);
+
+const SLIDES: [Slide<'_>; 4] = [
+    (
+        (BY_TWO, 2),
+        (&BASE_WORDS, &[21, 0]),
+        (&WITH_PREFIX, &[12, 0]),
+    ),
+    (
+        (RECORDED, 0),
+        (&BASE_WORDS, &[1, 21, 0, 1, 13]),
+        (&MOVED_WORDS, &[1, 10, 0, 1, 8]),
+    ),
+    (("schedule 1 1\n", 0), (&BASE_WORDS, &[]), (&[0; 32], &[])),
+    (("schedule 1 1\n", 0), (&BASE_WORDS, &[0]), (&[0; 32], &[0])),
+];
 
 /// Whether a replay of a schedule over the first heap ends with the second, both with this allowance.
 fn slides(
@@ -24,40 +41,13 @@ fn slides(
     finishes(alloc, threads, lines, before.as_slice(), after.as_slice())
 }
 
-/// Roots of the base heap, and the roots of its compaction.
-const ROOTS: [(&[u64], &[u64]); 2] = [
-    (&[21, 0], &[10, 0]),
-    (&[1, 21, 0, 1, 13], &[1, 10, 0, 1, 8]),
-];
-
-#[test]
-fn roots_are_redirected(rt: HostRuntime) -> Result<(), Fail> {
-    for (row, (roots, new_roots)) in ROOTS.iter().enumerate() {
-        let old = (&BASE_WORDS, *roots);
-        let new = (&MOVED_WORDS, *new_roots);
-        let slides = slides(rt.alloc(), &rt, (RECORDED, 0), old, new)?;
-        equal_at(&rt, slides, true, row);
-    }
-    Ok(())
-}
-
-#[test]
-fn without_live_objects_the_empty_schedule_finishes(rt: HostRuntime) -> Result<(), Fail> {
-    let none: [&[u64]; 2] = [&[], &[0]];
-    for (row, roots) in none.iter().enumerate() {
-        let old = (&BASE_WORDS, *roots);
-        let new = (&[0; 32], *roots);
-        let slides = slides(rt.alloc(), &rt, ("schedule 1 1\n", 0), old, new)?;
-        equal_at(&rt, slides, true, row);
-    }
-    Ok(())
-}
-
-/// Whether the schedule of two workers finishes over a heap whose first region stays.
+/// Whether each of these replays ends with its heap.
 fn comes_through(alloc: Global, threads: &(impl Threads + Sync)) -> Result<bool, Fault> {
-    let old = (&BASE_WORDS, [21, 0].as_slice());
-    let new = (&WITH_PREFIX, [12, 0].as_slice());
-    slides(alloc, threads, (BY_TWO, 2), old, new)
+    let mut all = true;
+    for (schedule, old, new) in &SLIDES {
+        all &= slides(alloc, threads, *schedule, *old, *new)?;
+    }
+    Ok(all)
 }
 
 /// The script tests/build/test_crate_allocations.sh runs this with each allocation refused in turn.

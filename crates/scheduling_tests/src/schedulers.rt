@@ -57,34 +57,6 @@ fn one_worker_fills_three_regions(rt: HostRuntime) -> Result<(), Fail> {
     Ok(())
 }
 
-/// Two workers on the base heap, whose last region isn't to be filled.
-const BASE: [Call; 15] = [
-    (0, Event::Look(1), Ok(Reply::Open(1))),
-    (0, Event::Look(3), Ok(Reply::Outside(2))),
-    (0, Event::Claim(3), Ok(Reply::No)),
-    (0, Event::Claim(0), Ok(Reply::Yes)),
-    (1, Event::Claim(0), Ok(Reply::No)),
-    (1, Event::Drain(0, 1), Err(Illegal)),
-    (0, Event::Drain(0, 1), Ok(Reply::Last)),
-    (1, Event::Claim(1), Ok(Reply::Yes)),
-    (1, Event::Drain(1, 3), Ok(Reply::NotLast)),
-    (0, Event::Look(3), Ok(Reply::Outside(1))),
-    (1, Event::Drain(1, 2), Ok(Reply::Last)),
-    (0, Event::Complete(1), Err(Illegal)),
-    (1, Event::Complete(1), Ok(Reply::Done)),
-    (0, Event::Settle(1), Err(Illegal)),
-    (1, Event::Settle(1), Ok(Reply::More)),
-];
-
-#[test]
-fn a_region_outside_is_drained_and_never_granted(rt: HostRuntime) -> Result<(), Fail> {
-    let pairs = [(0, 1), (1, 2), (1, 3), (2, 3)];
-    let moves = table_of(rt.alloc(), &[true, true, true, false], &pairs)?;
-    let mut scheduler = Scheduler::new(rt.alloc(), &moves, 2)?;
-    check_calls(&rt, &mut scheduler, &BASE);
-    Ok(())
-}
-
 /// The calls of two workers on a locked board of two regions, with the expected results.
 const LOCKED: [(u32, Event, Result<Reply, CallFault>); 15] = [
     (0, Event::Claim(1), Ok(Reply::No)),

@@ -66,22 +66,6 @@ fn a_table_has_16384_regions_at_most(rt: HostRuntime) -> Result<(), Fail> {
     Ok(())
 }
 
-#[test]
-fn a_table_has_its_flags_and_pairs(rt: HostRuntime) -> Result<(), Fail> {
-    let fill = [true, true, false, false];
-    let table = table_of(rt.alloc(), &fill, &[(0, 1), (0, 3), (1, 3)])?;
-    holds(&rt, table.regions() == 4);
-    equal(&rt, (table.to_fill(1), table.to_fill(2)), (true, false));
-    equal(&rt, table.count(3), 2);
-    let sources = [
-        table.next_source(0, 0),
-        table.next_source(0, 2),
-        table.next_source(1, 4),
-    ];
-    equal(&rt, sources, [Some(1), Some(3), None]);
-    Ok(())
-}
-
 /// Region 0 reads four others, and each of the last two has two readers.
 const MANY_SOURCES: [(u32, u32); 6] = [(0, 1), (0, 2), (0, 4), (0, 5), (1, 5), (3, 4)];
 
@@ -133,8 +117,9 @@ fn check_sources(rt: &impl Abort, indexed: &IndexedMoves)
     }
 }
 
-/// The next sources of regions 1, 2 and 3, and the numbers of readers of regions 0, 2 and 5.
-fn look_up_others(indexed: &IndexedMoves) -> ([Option<u32>; 3], [u32; 3])
+/// The next sources of regions 1, 2 and 3, the numbers of readers of regions 0, 2 and 5, and whether regions 1 and 2 are
+/// to be filled.
+fn look_up_others(indexed: &IndexedMoves) -> ([Option<u32>; 3], [u32; 3], [bool; 2])
     requires { region_count indexed.now ≡ 6 }
 {
     let sources = [
@@ -143,7 +128,8 @@ fn look_up_others(indexed: &IndexedMoves) -> ([Option<u32>; 3], [u32; 3])
         indexed.next_source(3, 5),
     ];
     let counts = [indexed.count(0), indexed.count(2), indexed.count(5)];
-    (sources, counts)
+    let fills = [indexed.to_fill(1), indexed.to_fill(2)];
+    (sources, counts, fills)
 }
 
 #[test]
@@ -155,7 +141,7 @@ fn an_index_finds_each_source_from_anywhere(rt: HostRuntime) -> Result<(), Fail>
     equal(
         &rt,
         look_up_others(&indexed),
-        ([Some(5), None, None], [0, 1, 2]),
+        ([Some(5), None, None], [0, 1, 2], [true, false]),
     );
     Ok(())
 }

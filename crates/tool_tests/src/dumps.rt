@@ -1,8 +1,7 @@
-//! Dumps from slow and failing devices, dumps that change between the two readings, and region sizes and a version that no command
-//! line can give. `tests/cli/test_import.py` has the words, figures and errors of other dumps.
+//! Dumps from slow and failing devices, and region sizes and a version that no command line can give. `tests/cli/test_import.py` has
+//! the words, figures and errors of other dumps, and `tests/faults/test_hostile.py` dumps that change between the two readings.
 use crate::checks::equal;
-use crate::dump_writer::Writer;
-use heap_dump::{ImportError, Imported, Options, Problem, import};
+use heap_dump::{ImportError, Imported, Options, import};
 use heap_image::{FromRead, Image, Intake, Version};
 use heap_samples::Trickle;
 use std::alloc::{AllocError, Global};
@@ -44,36 +43,39 @@ const SAMPLE_WORDS: [u64; 24] = [
     0,
 ];
 
-/// Roots, an instance and an array of references.
-fn first_records(alloc: Global) -> Result<Writer, AllocError> {
-    let mut heap = Writer::new(alloc);
-    heap.root(0x08, 312, &[0; 8])?;
-    heap.root(0x05, 312, &[])?;
-    heap.root(0x01, 336, &[0; 8])?;
-    heap.root(0xFF, 999, &[])?;
-    heap.root(0x07, 0, &[])?;
-    heap.instance(312, 256, &[0, 0, 0, 0, 0, 0, 0x11, 0x78, 1, 2, 3, 4])?;
-    heap.references(336, &[312, 0, 999])?;
-    Ok(heap)
-}
+/// The parts of a dump with an object of each kind, whose ids have eight bytes. There is a gap of one word after the class, and one
+/// of 513 words before the last array.
+const SAMPLE: [&[u8]; 15] = [
+    // The head, and a record with a name.
+    b"JAVA PROFILE 1.0.2\0\0\0\0\x08\0\0\0\0\0\0\0\0",
+    b"\x01\0\0\0\0\0\0\0\x04name",
+    // The head of the first segment, and roots, of which two lead nowhere.
+    b"\x1C\0\0\0\0\0\0\0\x93",
+    b"\x08\0\0\0\0\0\0\x01\x38\0\0\0\0\0\0\0\0\x05\0\0\0\0\0\0\x01\x38",
+    b"\x01\0\0\0\0\0\0\x01\x50\0\0\0\0\0\0\0\0",
+    b"\xFF\0\0\0\0\0\0\x03\xE7\x07\0\0\0\0\0\0\0\0",
+    // An instance, and an array of references.
+    b"\x21\0\0\0\0\0\0\x01\x38\0\0\0\0\0\0\0\0\0\0\x01\0\0\0\0\x0C\0\0\0\0\0\0\x11\x78\x01\x02\x03\x04",
+    b"\x22\0\0\0\0\0\0\x01\x50\0\0\0\0\0\0\0\x03\0\0\0\0\0\0\x01\0\0\0\0\0\0\0\x01\x38\0\0\0\0\0\0\0\0\0\0\0\0\0\0\x03\xE7",
+    // The head of the last segment, and an array of bytes.
+    b"\x1C\0\0\0\0\0\0\0\x85",
+    b"\x23\0\0\0\0\0\0\x11\x78\0\0\0\0\0\0\0\x09\x08\x01\x02\x03\x04\x05\x06\x07\x08\x09",
+    // The class of the instance, with a static field and two fields.
+    b"\x20\0\0\0\0\0\0\x01\0\0\0\0\0",
+    b"\0\0\0\0\0\0\0\0\0\0\0\0\0\0\0\0\0\0\0\0\0\0\0\0\0\0\0\0\0\0\0\0\0\0\0\0\0\0\0\0\0\0\0\0\0\0\0\0\0\0\0\0",
+    b"\0\0\0\x01\0\0\0\0\0\0\0\x01\x02\0\0\0\0\0\0\x01\x38",
+    b"\0\x02\0\0\0\0\0\0\0\x01\x02\0\0\0\0\0\0\0\x01\x0A",
+    // The end of the heap.
+    b"\x2C\0\0\0\0\0\0\0\0",
+];
 
-/// An array of bytes, and the class of the instance.
-fn last_records(alloc: Global) -> Result<Writer, AllocError> {
-    let mut heap = Writer::new(alloc);
-    heap.bytes(4472, &[1, 2, 3, 4, 5, 6, 7, 8, 9])?;
-    heap.class(256, 312, &[2, 10])?;
-    Ok(heap)
-}
-
-/// A dump with an object of each kind. There is a gap of one word after the class, and one of 513 words before the last
-/// array.
+/// The bytes of the sample.
 fn sample(alloc: Global) -> Result<Vec<u8>, AllocError> {
-    let mut dump = Writer::dump(alloc)?;
-    dump.record(0x01, b"name")?;
-    dump.record(0x1C, first_records(alloc)?.as_slice())?;
-    dump.record(0x1C, last_records(alloc)?.as_slice())?;
-    dump.record(0x2C, b"")?;
-    Ok(dump.into_bytes())
+    let mut dump = Vec::new(alloc);
+    for part in &SAMPLE {
+        dump.extend_from_slice(part)?;
+    }
+    Ok(dump)
 }
 
 /// Whether an image has these words.
@@ -120,16 +122,19 @@ fn a_slow_reader_is_served_and_a_failing_one_is_reported(rt: HostRuntime) -> Res
     Ok(())
 }
 
-/// The error of an import from these two readings, or None if it gives an image. Refused memory is an error of the
-/// test.
+/// The error for regions of this size, where another one is the largest.
+fn too_large(region_log: u32, most: u32) -> ImportError {
+    ImportError::RegionLog { region_log, most }
+}
+
+/// The error of an import of a dump, or None if it gives an image. Refused memory is an error of the test.
 fn refusal(
     alloc: Global,
-    first: &[u8],
-    second: &[u8],
+    dump: &[u8],
     options: Options,
 ) -> Result<Option<ImportError>, ImportError> {
-    let mut first = FromRead::new(first);
-    let mut second = FromRead::new(second);
+    let mut first = FromRead::new(dump);
+    let mut second = FromRead::new(dump);
     match import(alloc, &mut first, &mut second, options) {
         Ok(_) => Ok(None),
         Err(ImportError::Memory) => Err(ImportError::Memory),
@@ -137,116 +142,24 @@ fn refusal(
     }
 }
 
-/// The sample in one record, with these references in its array of references, and without its last array if `lacks`.
-fn variant(alloc: Global, references: &[u64], lacks: bool) -> Result<Vec<u8>, AllocError> {
-    let mut heap = Writer::new(alloc);
-    heap.root(0x05, 312, &[])?;
-    heap.class(256, 312, &[2, 10])?;
-    heap.instance(312, 256, &[0, 0, 0, 0, 0, 0, 0x11, 0x78, 1, 2, 3, 4])?;
-    heap.references(336, references)?;
-    if !lacks {
-        heap.bytes(4472, &[1, 2, 3, 4, 5, 6, 7, 8, 9])?;
-    }
-    let mut dump = Writer::dump(alloc)?;
-    dump.record(0x0C, heap.as_slice())?;
-    Ok(dump.into_bytes())
-}
-
-/// The offset at which it is reported that the second reading gives a variant of the sample, or None if it isn't.
-fn reported_change(
-    alloc: Global,
-    references: &[u64],
-    lacks: bool,
-) -> Result<Option<u64>, ImportError> {
-    let whole = variant(alloc, &[312, 0, 999], false)?;
-    let other = variant(alloc, references, lacks)?;
-    match refusal(alloc, whole.as_slice(), other.as_slice(), SMALL)? {
-        Some(
-            ImportError::Malformed {
-                offset,
-                problem: Problem::Changed,
-            },
-        ) => Ok(Some(offset)),
-        Some(error) => Err(error),
-        None => Ok(None),
-    }
-}
+/// A dump that ends behind an empty segment of its heap.
+const UNENDED: &[u8] = b"JAVA PROFILE 1.0.2\0\0\0\0\x08\0\0\0\0\0\0\0\0\x1C\0\0\0\0\0\0\0\0";
 
 #[test]
-fn a_changed_dump_is_reported(rt: HostRuntime) -> Result<(), Fail> {
-    let same = reported_change(rt.alloc(), &[312, 0, 999], false)?;
-    equal(&rt, same, None);
-    // Only the size of an array differs.
-    let smaller = reported_change(rt.alloc(), &[312, 0], false)?;
-    equal(&rt, smaller, Some(192));
-    let larger = reported_change(rt.alloc(), &[312, 0, 999, 0], false)?;
-    equal(&rt, larger, Some(192));
-    // Only an object is missing, which is reported at the end.
-    let fewer = reported_change(rt.alloc(), &[312, 0, 999], true)?;
-    equal(&rt, fewer, Some(192));
-    Ok(())
-}
-
-#[test]
-fn regions_of_a_size_that_no_image_has_are_refused(rt: HostRuntime) -> Result<(), Fail> {
-    let mut dump = Writer::dump(rt.alloc())?;
-    dump.record(0x1C, &[])?;
-    for (version, region_log, most) in [
-        (Some(Version::Two), 17, 16),
-        (Some(Version::Three), 21, 20),
-        (None, 21, 20),
-    ] {
-        let larger = Options {
-            region_log: Some(region_log),
-            version,
-            ..SMALL
-        };
-        let error = refusal(rt.alloc(), dump.as_slice(), dump.as_slice(), larger)?;
-        equal(
-            &rt,
-            error,
-            Some(ImportError::RegionLog { region_log, most }),
-        );
-    }
-    Ok(())
-}
-
-#[test]
-fn an_import_without_roots_is_refused(rt: HostRuntime) -> Result<(), Fail> {
-    let dump = sample(rt.alloc())?;
-    let listed = Options {
-        version: Some(Version::One),
-        ..SMALL
-    };
-    let error = refusal(rt.alloc(), dump.as_slice(), dump.as_slice(), listed)?;
-    equal(&rt, error, Some(ImportError::NoRoots));
-    Ok(())
-}
-
-/// The version of the image of the sample with these options.
-fn version_with(alloc: Global, dump: &[u8], options: Options) -> Result<Version, ImportError> {
-    let (mut first, mut second) = (FromRead::new(dump), FromRead::new(dump));
-    let Imported { image, .. } = import(alloc, &mut first, &mut second, options)?;
-    Ok(image.version())
-}
-
-#[test]
-fn an_image_has_the_version_that_is_requested(rt: HostRuntime) -> Result<(), Fail> {
-    let dump = sample(rt.alloc())?;
-    for (version, region_log, wanted) in [
-        (None, 3, Version::Two),
-        (None, 16, Version::Two),
-        (None, 17, Version::Three),
-        (Some(Version::Two), 9, Version::Two),
-        (Some(Version::Three), 3, Version::Three),
+fn options_that_no_image_has_are_refused(rt: HostRuntime) -> Result<(), Fail> {
+    for (version, region_log, error) in [
+        (Some(Version::Two), 17, too_large(17, 16)),
+        (Some(Version::Three), 21, too_large(21, 20)),
+        (None, 21, too_large(21, 20)),
+        (Some(Version::One), 3, ImportError::NoRoots),
     ] {
         let options = Options {
             region_log: Some(region_log),
             version,
             ..SMALL
         };
-        let made = version_with(rt.alloc(), dump.as_slice(), options)?;
-        equal(&rt, made, wanted);
+        let found = refusal(rt.alloc(), UNENDED, options)?;
+        equal(&rt, found, Some(error));
     }
     Ok(())
 }

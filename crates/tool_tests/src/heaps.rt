@@ -2,7 +2,7 @@
 //! `tests/cli/test_generate.py` has the others, and the words of seeds.
 use crate::checks::equal;
 use heap_image::Version;
-use heap_maker::{Generated, GenerationError, Wanted, generate};
+use heap_maker::{GenerationError, Wanted, generate};
 use std::alloc::Global;
 use std::test::Fail;
 
@@ -120,22 +120,6 @@ fn wishes_that_no_image_has_are_refused(rt: HostRuntime) -> Result<(), Fail> {
     for (wanted, text) in &REFUSED {
         let said = refusal_text(rt.alloc(), wanted)?;
         equal(&rt, said.as_str(), *text);
-    }
-    Ok(())
-}
-
-/// Whether a heap is generated in this version, with roots exactly if the version has them.
-fn has_version(alloc: Global, version: Version) -> Result<bool, GenerationError> {
-    let wanted = Wanted { version, ..SMALL };
-    let Generated { image, figures } = generate(alloc, &wanted)?;
-    let roots = image.roots().len() as u64;
-    Ok(image.version() == version && figures.roots == roots && version.has_roots() == (roots > 0))
-}
-
-#[test]
-fn a_heap_has_the_version_that_is_wanted(rt: HostRuntime) -> Result<(), Fail> {
-    for version in [Version::One, Version::Two, Version::Three] {
-        equal(&rt, has_version(rt.alloc(), version)?, true);
     }
     Ok(())
 }

@@ -1,4 +1,4 @@
-//! Tests of the public calls of `heap_dump`, `heap_maker` and `heap_text`.
+//! Tests of the public calls of `heap_dump`, `heap_maker`, `heap_text` and `heap_map`.
 //!
 //! They are a crate of their own, so that a change of a test doesn't prove these crates again.
 #![tactic(auto)]
@@ -6,10 +6,10 @@
 #[cfg(test)]
 mod checks;
 #[cfg(test)]
-mod dump_writer;
-#[cfg(test)]
 mod dumps;
 #[cfg(test)]
 mod heaps;
+#[cfg(test)]
+mod names;
 #[cfg(test)]
 mod texts;

@@ -5,7 +5,8 @@
 // The environment has it do more. With SWAPPED a link to that file takes the name of the first such file as soon as that is
 // made: what a stranger may do who can write in the folder. With FAILS the calls that this names fail: `sync`, `rename`,
 // `owner`, `mode`, `empty`, `stat`; with `none` a write to a file takes no byte. With MEANWHILE that command runs before the first
-// write to a file. With HELD so many MiB of memory are asked for, touched and given back before the program begins.
+// write to a file. With HELD so many MiB of memory are asked for, touched and given back before the program begins. With AGAIN
+// that file is opened in place of the file `dump` where that is opened for a second time.
 #define _GNU_SOURCE
 #include <dlfcn.h>
 #include <errno.h>
@@ -25,6 +26,7 @@ static char is_systems[FILES];
 static mode_t told_mode = -1;
 static int was_swapped;
 static int was_run;
+static int dump_openings;
 
 // The C library's function of this name.
 #define NEXT(name) \
@@ -68,13 +70,19 @@ static void swap(const char *name) {
     }
 }
 
+// The file to open under this name.
+static const char *opened(const char *name) {
+    const char *again = getenv("AGAIN");
+    return again && strcmp(name, "dump") == 0 && ++dump_openings == 2 ? again : name;
+}
+
 int open(const char *name, int flags, ...) {
     NEXT(open)
     va_list rest;
     va_start(rest, flags);
     mode_t mode = flags & O_CREAT ? va_arg(rest, mode_t) : 0;
     va_end(rest);
-    int file = next(name, flags, mode);
+    int file = next(opened(name), flags, mode);
     if (file >= 0 && file < FILES) {
         is_systems[file] = strncmp(name, "/sys/", 5) == 0 || strncmp(name, "/proc/", 6) == 0;
         is_new[file] = (flags & O_EXCL) != 0;
