@@ -79,13 +79,16 @@ class Crate:
     def stamp(self):
         return "marked"
     def build_rlib(self, flags, anew):
-        how = "statements" if anew and self.cuts_libraries and flags[0] == "--jobs" else "wrong"
+        is_right = anew and self.cuts_libraries and flags[0] == "--jobs" and "--empty-contracts" not in help_of("check")
+        how = "statements" if is_right else "wrong"
         with open(KIT / "calls", "a") as calls:
             print(how, self.folder.name, file=calls)
         if (KIT / f"fails-{self.folder.name}").exists():
             return 1
         (self.folder / "out/rlib").mkdir(parents=True)
         return 0
+def help_of(verb):
+    return "--empty-contracts"
 def guarded():
     return []
 def root_above(folder):
