@@ -7,7 +7,7 @@ ghost use Rattle.scheduler.specs.declared.entry.Entry.{Entry};
 ghost use Rattle.scheduler.specs.declared.reply.Reply.{Reply};
 ghost use Rattle.scheduler.specs.MoveTable.{MoveTable, IsMoveTable, reads};
 ghost use Rattle.scheduler.specs.State.{is_pending};
-ghost use Rattle.scheduler.specs.History.{IsLegal, calls_by};
+ghost use Rattle.scheduler.specs.History.{IsLegal, calls_by, state_of};
 ghost use Rattle.claim_board.specs.declared.board.Board.{Board};
 ghost use Rattle.claim_board.specs.declared.tokens.done.Done.{Done};
 ghost use Rattle.claim_board.specs.declared.tokens.opening.Opening.{Opening};
@@ -67,6 +67,16 @@ pub fn nothing_is_read_from_a_ticket()
 pub fn no_region_is_read_and_written()
     ensures { (m : MoveTable) (workers : ℕ) (log : List Entry) (one other : Caller) (right : Right) (opening : Opening) → IsLegal m workers log → calls_by one.worker log ≡ one.mine → calls_by other.worker log ≡ other.mine
         → IsRightOf one right → IsOpeningOf m other opening → opening.source ≢ right.region }
+{
+    what_legal_histories_keep();
+    what_own_calls_tell();
+}
+
+/// No region is written that another still has to read: while a worker holds the right to a region, no destination is left
+/// that still reads it, whether claimed or not, in any legal history with the worker's calls.
+pub fn writers_have_no_pending_readers()
+    ensures { (m : MoveTable) (workers : ℕ) (log : List Entry) (one : Caller) (right : Right) (destination : ℕ) → IsLegal m workers log → calls_by one.worker log ≡ one.mine
+        → IsRightOf one right → is_pending m (state_of log) destination right.region ≡ false }
 {
     what_legal_histories_keep();
     what_own_calls_tell();

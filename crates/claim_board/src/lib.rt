@@ -19,7 +19,8 @@
 //!   `other_calls_leave_tickets`, `other_calls_leave_completions`, `one_more_source_is_drained` and
 //!   `swept_tickets_have_none_left` are for a caller that keeps a ticket or a `Done` over several calls,
 //!   `other_calls_leave_openings` for one that keeps an opening or a right,
-//!   `no_region_is_read_and_written` is about a right and an opening of passes that have met, and
+//!   `writers_have_no_pending_readers` is about a right and all destinations,
+//!   `no_region_is_read_and_written` about a right and an opening of passes that have met, and
 //!   `nothing_is_read_from_a_ticket` about two tickets;
 //!   `appended_calls_are_gained` leads from a pass to these laws, and `appended_calls_leave_others`
 //!   says for one call of a pass what the first two say.
@@ -50,6 +51,7 @@ pub use laws::{
     appended_calls_are_gained, appended_calls_leave_others, no_region_is_read_and_written,
     nothing_is_read_from_a_ticket, one_more_source_is_drained, other_calls_leave_completions,
     other_calls_leave_openings, other_calls_leave_tickets, swept_tickets_have_none_left,
+    writers_have_no_pending_readers,
 };
 pub use pass::Pass;
 pub use tokens::closed::Closed;

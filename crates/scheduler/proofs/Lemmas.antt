@@ -16,3 +16,6 @@ pub mod ImageSources
 pub mod Books
 pub mod SmallLines
 pub mod Whole
+pub mod GoingOn
+pub mod GoingOnCounts
+pub mod Shares

@@ -3,6 +3,8 @@ pub mod MoveIndex
 pub mod State
 pub mod History
 pub mod Whole
+pub mod GoingOn
+pub mod Shares
 pub mod Progress
 pub mod Scheduler
 pub mod ImageMoves

@@ -4,6 +4,7 @@ ghost use Rattle.scheduler.specs.State.{State};
 ghost use Rattle.scheduler.specs.History.{IsLegal, IsOrderly, IsReached, TellsOwn, CountsDown, state_of, calls_by};
 ghost use Rattle.scheduler.specs.declared.entry.Entry.{Entry};
 
+pub(crate) mod going_on;
 pub(crate) mod image_laws;
 pub(crate) mod line_laws;
 pub(crate) mod whole_histories;

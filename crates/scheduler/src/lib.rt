@@ -34,6 +34,11 @@ mod scheduler;
 
 pub use entry::Entry;
 pub use event::{Event, Illegal};
+pub use laws::going_on::{
+    changes_are_counted, freed_regions_are_counted, freed_regions_find_room, legal_histories_go_on,
+    lowest_claims_are_granted, lowest_unfilled_regions_are_read, regions_are_freed_once,
+    shares_follow_the_state,
+};
 pub use laws::image_laws::moves_of_images;
 pub use laws::line_laws::calls_are_lines;
 pub use laws::whole_histories::settled_histories_have_each_once;

@@ -24,6 +24,13 @@ none_pending reached law m n log one other r d legal first second is at =
     let held : (state_of log).claimed r ≡ Some one.worker = sym here.claimed ∙ is.0 in
     pending_as m d r (own other) (state_of log) (told_of law m n log other d legal second at) ∙ (reached m n log legal).claimed_read d r one.worker held
 
+-- nothing that is still to be read lies in a region of a right
+pub none_waits : Reached → Own → (m : MoveTable) (workers : ℕ) (log : List Entry) (one : Caller) (right : Right) (destination : ℕ) → IsLegal m workers log → calls_by one.worker log ≡ one.mine
+    → IsRightOf one right → is_pending m (state_of log) destination right.region ≡ false
+none_waits reached law m n log one right destination legal calls is =
+    let here = told_of law m n log one right.region legal calls is in
+    (reached m n log legal).claimed_read destination right.region one.worker (sym here.claimed ∙ is.0)
+
 pub nothing_read : Reached → Own → (m : MoveTable) (workers : ℕ) (log : List Entry) (one other : Caller) (t u : Ticket) → IsLegal m workers log → calls_by one.worker log ≡ one.mine → calls_by other.worker log ≡ other.mine
     → IsTicketOf m one t → IsTicketOf m other u → is_pending m (own other) u.region t.region ≡ false
 nothing_read reached law m n log one other t u legal first second is at = none_pending reached law m n log one other t.region u.region legal first second is.filling at.filling

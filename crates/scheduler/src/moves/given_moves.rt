@@ -8,7 +8,7 @@ use std::alloc::{AllocError, Global};
 use std::marker::Model;
 
 /// The most regions of a table that `GivenMoves::new` checks. Its counts of readers are on the stack.
-const MAX_REGIONS: usize = limits::MAX_REGIONS as usize;
+const MAX_REGIONS: usize = limits::MAX_REGIONS_V2 as usize;
 
 /// A table of moves as plain lists, checked when it is made. It has no index: a count goes over all
 /// pairs, and a source is found by binary search. `IndexedMoves` does both in constant time.
