@@ -1,12 +1,12 @@
 //! The body: the part of an image's text after its front.
-ghost use Rattle.std.specs.Prelude.{◌≡◌, ◌<◌, ◌≤◌, ◌*◌, ◌^◌, ◌||◌, ℕ, List, length, IfOk, IfErr, IfSome, Err};
+ghost use Rattle.std.specs.Prelude.{◌≡◌, ◌<◌, ◌≤◌, ◌*◌, ◌^◌, ◌||◌, ◌+◌, ℕ, All, List, length, IfOk, IfErr, IfSome, Err};
 ghost use Rattle.std.specs.List.{concat};
 ghost use Rattle.std.specs.Io.KnownBytes.{Consumes};
 ghost use Rattle.image_streams.specs.Body.{IsBody, body_words, IsOfBody};
 ghost use Rattle.image_streams.specs.Device.{is_io};
 ghost use Rattle.image_streams.specs.Incoming.{FallsShort};
 ghost use Rattle.image_streams.specs.Reading.{AreRegions, Draws, IsDue, Reads, ReadsBody};
-ghost use Rattle.image_streams.specs.RegionSource.{HasRegionsFor};
+ghost use Rattle.image_streams.specs.RegionSource.{HasRegions, HasRegionsFor};
 
 use crate::numbers::incoming::Incoming;
 use crate::region_source::RegionSource;
@@ -89,9 +89,36 @@ fn read_regions<R: Intake>(
     }
     let mut words = vec![in source.alloc; 0u64; 1 << size.region_log]?;
     for r in 0..size.regions {
-        let words = words.as_mut_slice();
-        incoming.read(reader, words)?;
-        regions.push(source.region(r, words)?)?;
+        let region = read_region(source, incoming, reader, r, words.as_mut_slice())?;
+        regions.push(region)?;
     }
     Ok(regions)
+}
+
+/// Reads the region with this number: from the buffered bytes if they have all of its words, else by way of `words`, which
+/// has its size.
+fn read_region<R: Intake>(
+    source: &RegionSource<'_>,
+    incoming: &mut Incoming<'_>,
+    reader: &mut R,
+    index: usize,
+    words: &mut [u64],
+) -> Result<Region, Fault>
+    requires some { 1 ≤ length words.old }
+    requires few { length words.old ≤ 1048576 }
+    requires source { HasRegions source.now (length words.old) (index + 1) }
+    requires due { IsDue incoming.old (length words.old) }
+    ensures words { IfOk result (Reads R.left incoming.old incoming.new reader.old reader.new) }
+    ensures length { IfOk result (λ region. length region ≡ length words.old) }
+    ensures fit { IfOk result (λ region. All (λ w. w < 2 ^ 64) region) }
+    ensures device { Draws IsOfBody R.left R.has_failed incoming.old reader.old reader.new result }
+{
+    incoming.top_up(reader)?;
+    if !incoming.holds(words.len()) {
+        incoming.read(reader, words)?;
+        return source.region(index, words);
+    }
+    let region = source.region_of_bytes(index, incoming.next_bytes(words.len()), words.len())?;
+    incoming.skip(words.len());
+    Ok(region)
 }

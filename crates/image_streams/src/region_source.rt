@@ -1,6 +1,7 @@
 //! Where the regions of a body come from.
-ghost use Rattle.std.specs.Prelude.{◌≡◌, ◌+◌, ◌<◌, ◌≤◌, ◌^◌, [], None, length, IfOk, IfErr, IfSome};
+ghost use Rattle.std.specs.Prelude.{◌≡◌, ◌+◌, ◌*◌, ◌<◌, ◌≤◌, ◌^◌, [], All, None, length, IfOk, IfErr, IfSome};
 ghost use Rattle.image_streams.specs.Body.{HasFewWords};
+ghost use Rattle.image_streams.specs.Numbers.{numbers};
 ghost use Rattle.image_streams.specs.RegionSource.{HasRegions, IsPoolOf};
 
 use crate::{BodySize, Fault};
@@ -71,6 +72,39 @@ impl<'a> RegionSource<'a> {
             None => Ok(Region::of_words(self.alloc, words)?),
         }
     }
+
+    /// The region with this number, of `len` words with these bytes. Fault 11 if memory runs out, or if it is out of the
+    /// pool.
+    pub(crate) fn region_of_bytes(
+        &self,
+        index: usize,
+        bytes: &[u8],
+        len: usize,
+    ) -> Result<Region, Fault>
+        requires some { 1 ≤ len }
+        requires few { len ≤ 1048576 }
+        requires whole { length bytes.now ≡ 8 * len }
+        requires has { HasRegions self.now len (index + 1) }
+        ensures words { IfOk result (λ region. numbers region ≡ bytes.now) }
+        ensures fit { IfOk result (λ region. All (λ w. w < 2 ^ 64) region) }
+        ensures fault { IfErr result (λ fault. fault ≡ Fault.Memory) }
+    {
+        let region = match self.pool {
+            Some(pool) => pool
+                .take_with_bytes(self.first + index, bytes)
+                .ok_or(Fault::Memory)?,
+            None => Region::of_bytes(self.alloc, bytes, len)?,
+        };
+        words_fit(region.words());
+        Ok(region)
+    }
+}
+
+/// The words of a region fit in 64 bits.
+fn words_fit(words: &[u64])
+    ensures { All (λ w. w < 2 ^ 64) words.now }
+{
+    let _count = words.len();
 }
 
 /// Allocates the regions of a body of this size at once, if it has any. The only error is that memory runs out.

@@ -1,4 +1,5 @@
 pub mod Fields
+pub mod Fillings
 pub mod Frames
 pub mod Heap
 pub mod Held
@@ -8,3 +9,4 @@ pub mod Rooms
 pub mod RoomsSent
 pub mod Seen
 pub mod Steps
+pub mod Words

@@ -1,6 +1,7 @@
 //! The unsafe code of the crate: a raw pointer, a length, and the memory that they own.
-ghost use Rattle.std.specs.Prelude.{◌≡◌, ◌^◌, ◌<◌, ◌≤◌, ℕ, List, length, replicate, Option, Some, IfOk};
+ghost use Rattle.std.specs.Prelude.{◌≡◌, ◌*◌, ◌^◌, ◌<◌, ◌≤◌, ℕ, List, flat_map, length, replicate, Option, Some, IfOk};
 ghost use Rattle.std.specs.Borrow.{sem};
+ghost use Rattle.std.specs.Int.{w64, to_le_bytes};
 ghost use Rattle.std.specs.Ptr.{Ptr};
 ghost use Rattle.raw_region.specs.Block.{block_owns, block_shares};
 
@@ -55,6 +56,18 @@ impl Block {
         ensures deed { IfOk result (λ b. b.deed ≡ Some (b.at, b.len)) }
     {
         Ok(Room::allocate(alloc, words.len())?.write(words))
+    }
+
+    /// Allocates a block with the words that these bytes are, 8 each, the lowest byte first.
+    pub(crate) fn of_bytes(alloc: &Global, bytes: &[u8], len: usize) -> Result<Block, AllocError>
+        requires nonempty { 1 ≤ len }
+        requires at_most { len < 2 ^ 60 }
+        requires whole { length bytes.now ≡ 8 * len }
+        ensures words { IfOk result (λ b. flat_map (to_le_bytes w64) b.words ≡ bytes.now) }
+        ensures length { IfOk result (λ b. b.len ≡ len) }
+        ensures deed { IfOk result (λ b. b.deed ≡ Some (b.at, b.len)) }
+    {
+        Ok(Room::allocate(alloc, len)?.write_bytes(bytes))
     }
 
     pub(crate) fn words(&self) -> &[u64]

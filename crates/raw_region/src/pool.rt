@@ -1,5 +1,6 @@
 //! Regions that share one allocation.
-ghost use Rattle.std.specs.Prelude.{◌≡◌, ◌*◌, ◌^◌, ◌<◌, ◌≤◌, length, replicate, IfSome, IfOk};
+ghost use Rattle.std.specs.Prelude.{◌≡◌, ◌*◌, ◌^◌, ◌<◌, ◌≤◌, flat_map, length, replicate, IfSome, IfOk};
+ghost use Rattle.std.specs.Int.{w64, to_le_bytes};
 ghost use Rattle.raw_region.specs.RegionBlock.{IsLeased};
 
 use crate::block::MAX_WORDS;
@@ -81,6 +82,17 @@ impl RegionPool {
     {
         let (lease, room) = self.lease(index)?;
         Some(Region::of_lease(self.alloc, lease, room.write(words)))
+    }
+
+    /// Takes a region with the words that these bytes are, 8 each, the lowest byte first, and writes each word once.
+    /// `None` if it is out already.
+    pub fn take_with_bytes(&self, index: usize, bytes: &[u8]) -> Option<Region>
+        requires inside { index < self.now.count }
+        requires whole { length bytes.now ≡ 8 * self.now.size }
+        ensures { IfSome result (λ region. flat_map (to_le_bytes w64) region ≡ bytes.now) }
+    {
+        let (lease, room) = self.lease(index)?;
+        Some(Region::of_lease(self.alloc, lease, room.write_bytes(bytes)))
     }
 
     /// Takes the room of a region, with a share of the frame. `None` if it is out already.

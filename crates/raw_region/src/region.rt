@@ -1,5 +1,6 @@
 //! The safe part of the crate: a list of words, built on `Block`.
-ghost use Rattle.std.specs.Prelude.{◌≡◌, ◌+◌, ◌<◌, ◌≤◌, length, replicate, slice_index, slice_set, IfOk, IfErr, IsTrue, None};
+ghost use Rattle.std.specs.Prelude.{◌≡◌, ◌+◌, ◌*◌, ◌<◌, ◌≤◌, flat_map, length, replicate, slice_index, slice_set, IfOk, IfErr, IsTrue, None};
+ghost use Rattle.std.specs.Int.{w64, to_le_bytes};
 ghost use Rattle.std.specs.Borrow.{sem};
 ghost use Rattle.raw_region.specs.Region.{with_words, part, hides};
 
@@ -62,6 +63,22 @@ impl Region {
         ensures { IfOk result (λ region. region ≡ words.now) }
     {
         let block = Block::of_words(&alloc, words)?;
+        Ok(Region {
+            block,
+            home: Home::Own { is_clear: false },
+            alloc,
+        })
+    }
+
+    /// Allocates a region of `len` words, which these bytes are, 8 each, the lowest byte first. The only error is that memory
+    /// runs out.
+    pub fn of_bytes(alloc: Global, bytes: &[u8], len: usize) -> Result<Region, AllocError>
+        requires nonempty { 1 ≤ len }
+        requires at_most { len ≤ MAX_WORDS }
+        requires whole { length bytes.now ≡ 8 * len }
+        ensures { IfOk result (λ region. flat_map (to_le_bytes w64) region ≡ bytes.now) }
+    {
+        let block = Block::of_bytes(&alloc, bytes, len)?;
         Ok(Region {
             block,
             home: Home::Own { is_clear: false },

@@ -1,9 +1,11 @@
 //! Room for words, which have no value yet.
-ghost use Rattle.std.specs.Prelude.{◌≡◌, ◌^◌, ◌<◌, ◌≤◌, ℕ, length, replicate, Option, Some, IfOk};
+ghost use Rattle.std.specs.Prelude.{◌≡◌, ◌+◌, ◌*◌, ◌^◌, ◌<◌, ◌≤◌, ℕ, flat_map, length, slice_range, replicate, Option, Some, IfOk};
+ghost use Rattle.std.specs.Int.{w64, to_le_bytes};
 ghost use Rattle.std.specs.Ptr.{Ptr};
 ghost use Rattle.raw_region.specs.Block.{room_owns};
 
 use crate::block::Block;
+use crate::filling::Filling;
 use std::alloc::{AllocError, Allocator, Global};
 use std::marker::{Model, Send, Sync};
 
@@ -118,6 +120,19 @@ impl Room {
         Block { at, len }
     }
 
+    /// Writes the words that these bytes are, 8 each, the lowest byte first.
+    pub(crate) fn write_bytes(self, bytes: &[u8]) -> Block
+        requires { length bytes.now ≡ 8 * self.len }
+        ensures room { room_of result ≡ self }
+        ensures words { flat_map (to_le_bytes w64) result.words ≡ bytes.now }
+    {
+        let mut filling = Filling::begin(self);
+        for i in 0..bytes.len() / 8 {
+            filling = filling.put(word_at(bytes, i));
+        }
+        filling.end()
+    }
+
     /// Frees the allocation, all of which is in the room.
     pub(crate) fn release(self, alloc: &Global)
         requires { self.deed ≡ Some (self.at, self.len) }
@@ -130,4 +145,12 @@ impl Room {
     pub(crate) fn leave(self) {
         let Room { at: _, len: _ } = self;
     }
+}
+
+/// The word at index `i`, whose bytes are 8 of these, the lowest first.
+fn word_at(bytes: &[u8], i: usize) -> u64
+    requires { 8 * i + 8 ≤ length bytes.now }
+    ensures { to_le_bytes w64 result ≡ slice_range bytes.now (8 * i) (8 * i + 8) }
+{
+    u64::from_le_bytes(*bytes[8 * i..8 * i + 8].first_chunk::<8>().unwrap())
 }

@@ -1,6 +1,6 @@
 -- What is taken of a device over several calls.
-use Rattle.std.proofs.Common.{◌≡◌, ℕ, ◌+◌, List, ◌++◌, length, inl, inr, refl, sym, ◌∙◌, ap, subst, Bool, Option, Ok, Err}
-use Rattle.std.specs.Prelude.{◌||◌}
+use Rattle.std.proofs.Common.{◌≡◌, ℕ, ◌+◌, List, ◌++◌, length, inl, inr, refl, sym, ◌∙◌, ap, subst, Bool, Option, Result, Ok, Err}
+use Rattle.std.specs.Prelude.{◌||◌, IfErr}
 use Rattle.std.specs.Io.KnownBytes.{Consumes}
 use Rattle.image_streams.specs.Body.{IsOfBody}
 use Rattle.image_streams.specs.Device.{is_io}
@@ -86,3 +86,9 @@ draws_well IsAllowed left has_failed first a b value lost same = record {
   lost = lost;
   failed = same;
 }
+
+-- a call after which only memory can have run out
+pub draws_or_memory : {S A : Type 0} (left : S → Option (List ℕ)) (has_failed : S → Bool) (first : Incoming) (a b : S) (result : Result A Fault) → IfErr result (λ x. x ≡ Memory) → IsDrawn (left a) (left b) → has_failed b ≡ has_failed a
+    → Draws IsOfBody left has_failed first a b result
+draws_or_memory left has_failed first a b (Ok value) e lost same = draws_well IsOfBody left has_failed first a b value lost same
+draws_or_memory left has_failed first a b (Err x) e lost same = draws_no_memory left has_failed first a b x e lost same

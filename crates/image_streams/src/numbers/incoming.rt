@@ -1,5 +1,5 @@
 //! A buffer for the numbers of a body while they are read.
-ghost use Rattle.std.specs.Prelude.{◌≡◌, ◌<◌, ◌≤◌, ◌+◌, ◌*◌, ◌^◌, All, length, take, OnOk, slice_range};
+ghost use Rattle.std.specs.Prelude.{◌≡◌, ◌<◌, ◌≤◌, ◌+◌, ◌*◌, ◌^◌, All, IsTrue, length, take, OnOk, slice_range};
 ghost use Rattle.std.specs.Io.KnownBytes.{Consumes};
 ghost use Rattle.image_streams.specs.Numbers.{numbers};
 ghost use Rattle.image_streams.specs.Reading.{IsOfDevice, Takes};
@@ -66,6 +66,37 @@ impl<'a> Incoming<'a> {
         self.end = n;
         self.due -= n;
         Ok(())
+    }
+
+    /// Whether the next `count` numbers are buffered.
+    pub(crate) fn holds(&self, count: usize) -> bool
+        requires { IsInRange self.now }
+        ensures { IsTrue result → self.now.start + count ≤ self.now.end }
+    {
+        count <= self.end - self.start
+    }
+
+    /// The bytes of the next `count` numbers, which are buffered.
+    pub(crate) fn next_bytes(&self, count: usize) -> &[u8]
+        requires in_range { IsInRange self.now }
+        requires held { self.now.start + count ≤ self.now.end }
+        ensures bytes { result.now ≡ slice_range self.now.bytes.now (8 * self.now.start) (8 * (self.now.start + count)) }
+        ensures length { length result.now ≡ 8 * count }
+    {
+        let from = 8 * self.start;
+        &self.bytes[from..from + 8 * count]
+    }
+
+    /// Takes the next `count` numbers, which are buffered, out of the buffer.
+    pub(crate) fn skip(&mut self, count: usize)
+        requires in_range { IsInRange self.old }
+        requires held { self.old.start + count ≤ self.old.end }
+        ensures start { self.new.start ≡ self.old.start + count }
+        ensures end { self.new.end ≡ self.old.end }
+        ensures due { self.new.due ≡ self.old.due }
+        ensures bytes { self.new.bytes.now ≡ self.old.bytes.now }
+    {
+        self.start += count;
     }
 
     /// Moves as many buffered numbers into `words` as fit, and returns how many.
