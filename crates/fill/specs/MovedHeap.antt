@@ -1,9 +1,9 @@
 -- The words of a heap between the moves and the end of a collection.
 use Rattle.std.specs.Prelude.{◌≡◌, ℕ, ◌+◌, ◌-◌, ◌*◌, ◌≤◌, Bool, false, ◌&&◌, nat_lt, nat_le, if◌then◌else◌, List, ◌++◌, length, take, replicate, map, Option, Some, None}
 use Rattle.std.specs.List.{concat, list_any, range_with_len}
-use Rattle.object_heap.specs.Header.{references_of}
+use Rattle.object_heap.specs.Layout.{references_in}
 use Rattle.object_heap.specs.HeapImage.{HeapImage, AreBlocks, heap_words, region_words, region_count, start_of}
-use Rattle.summary.specs.Compaction.{moved_word, redirected}
+use Rattle.summary.specs.Compaction.{moved_word, redirected_word}
 use Rattle.summary.specs.RegionData.{region_addresses, deferred}
 use Rattle.summary.specs.Updates.{is_late_reference}
 
@@ -22,7 +22,7 @@ module _ (image : HeapImage) where
 
   -- the moved word at p, redirected if p passes the test
   abbrev pub redirected_where : (ℕ → Bool) → ℕ → ℕ
-  redirected_where test p = if test p then redirected image (moved_word image p) else moved_word image p
+  redirected_where test p = if test p then redirected_word image (moved_word image p) else moved_word image p
 
   -- the words of `count` regions from region `first` on, redirected where the test passes
   abbrev pub words_from : ℕ → ℕ → (ℕ → Bool) → List ℕ
@@ -38,7 +38,7 @@ module _ (image : HeapImage) where
 
   -- the address of the last reference of the moved object at x, or x if it has none
   abbrev pub last_reference : ℕ → ℕ
-  last_reference x = x + references_of (moved_word image x)
+  last_reference x = x + references_in image.layout (moved_word image x)
 
   -- p is one of the references of the moved object at x
   abbrev pub is_reference_behind : ℕ → ℕ → Bool

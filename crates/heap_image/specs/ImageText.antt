@@ -2,6 +2,7 @@
 use Rattle.image_streams.specs.Numbers.{numbers, u32_at, u64_at}
 use Rattle.image_streams.specs.declared.fault.Fault.{Fault}
 use Rattle.image_streams.specs.declared.fault.Fault.TheVariants.{TruncatedHeader, Magic, RegionLog, Length, TruncatedBody, LiveOrder, Header, Overlap, Reference, Trailing, Root}
+use Rattle.object_heap.specs.Layout.{Own}
 use Rattle.object_heap.specs.HeapImage.{HeapImage, IsValid, heap_words, reachable, roots_or}
 use Rattle.object_heap.specs.ObjectFaults.{misplaced_index, misplaced_root, unsound_header, overlapping, dangling}
 use Rattle.object_heap.specs.Version.{magic, has_roots, max_region_log, max_regions, max_words}
@@ -69,6 +70,7 @@ module _ (bytes : List ℕ) where
   abbrev pub encoded_numbers : HeapImage
   encoded_numbers = record {
     version = One;
+    layout = Own;
     region_log = encoded_region_log;
     allowance = u64_at bytes 24;
     words = map (λ a. u64_at bytes (32 + 8 * a)) (range_with_len 0 encoded_words);

@@ -3,6 +3,7 @@ use Rattle.std.specs.Prelude.{◌≡◌, ℕ, ◌+◌, ◌<◌, ◌^◌, ◌++�
 use Rattle.std.specs.List.{concat}
 use Rattle.std.specs.Io.KnownBytes.{Consumes, IsAtEnd}
 use Rattle.object_heap.specs.HeapImage.{HeapImage, AreBlocks, IsValid, IsWithinLimits, heap_words, image_of, roots_or}
+use Rattle.object_heap.specs.Layout.{Own}
 use Rattle.object_heap.specs.Version.{Allows}
 use Rattle.object_heap.specs.declared.version.Version.{Version}
 use Rattle.object_heap.specs.declared.version.Version.TheVariants.{One}
@@ -25,6 +26,7 @@ pub record IsRead (image : HeapImage) (before after : Option (List ℕ)) : Type 
 
 -- this version allows the sizes, and each number fits its bytes
 pub record HasFittingNumbers (version : Version) (image : HeapImage) : Type 0 where
+  pub own : image.layout ≡ Own
   pub limits : IsWithinLimits image.region_log (heap_words image) (length image.live)
   pub allowed : Allows version image.region_log (heap_words image)
   pub counted : length image.live < 2 ^ 32

@@ -38,6 +38,7 @@ fn check_objects(heap: &Heap<'_>, live: &[u64], bits: &Bits) -> Result<(), Fault
     requires bits { MarkBegins live.now (heap_words heap.now) bits.now }
     ensures { Reports result (first_object_fault (with_live heap.now live.now)) }
 {
+    heap.own();
     let words = heap.len();
     let mut end = 0;
     let mut overlap = None;
@@ -88,6 +89,7 @@ fn check_overlaps(heap: &Heap<'_>, live: &[u64]) -> Result<(), Fault>
     ensures { Reports result (first_object_fault (with_live heap.now live.now)) }
 {
     is_small(heap);
+    heap.own();
     let mut end = 0;
     let mut overlap = None;
     for a in live {

@@ -12,10 +12,11 @@ ghost use Rattle.heap_image.specs.Unchecked.{front_in, numbers_in};
 use crate::check::unchecked::{Found, find_live_objects};
 use crate::io::front::Front;
 use crate::{Fault, Image, ImageParts, Version};
-use live_objects::{Alone, PIECE};
+use live_objects::PIECE;
 use object_heap::{Heap, blocks_joined, objects_without_faults};
 use raw_region::Region;
 use std::alloc::Global;
+use thread_row::Alone;
 
 /// The parts of an image whose sizes and live objects aren't checked.
 #[derive(Drop)]

@@ -1,14 +1,17 @@
 //! The image: a heap with its live objects, valid by its type.
 ghost use Rattle.std.specs.Prelude.{◌≡◌, ◌<◌, ◌≤◌, ◌^◌, All, IsTrue, Option, Some, None, is_some, length, map, option_map, IfSome};
 ghost use Rattle.std.specs.List.{concat, range_with_len};
-ghost use Rattle.object_heap.specs.HeapImage.{HeapImage, IsValid, AreBlocks, AreValidParts, image_of, versioned_image_of, is_null_or_live, roots_of, heap_words, region_count, region_words, word_at, words_alone, block_of};
+ghost use Rattle.object_heap.specs.HeapImage.{HeapImage, IsValid, AreBlocks, AreValidParts, image_of, versioned_image_of, is_null_or_live, roots_of, heap_words, region_count, region_words, word_at, size_at, references_at, words_alone, block_of};
 ghost use Rattle.heap_image.specs.ImageText.{with_tail};
 ghost use Rattle.object_heap.specs.Bits.{MarkBegins};
 ghost use Rattle.object_heap.specs.Sizes.{AreSizes};
 ghost use Rattle.object_heap.specs.Version.{has_roots};
 
+use crate::laws::image_is_valid;
 use live_objects::PIECE;
-use object_heap::{Bits, Heap, Version, blocks_joined, regions_by_log, roots_are_null_or_live};
+use object_heap::{
+    Bits, Heap, Version, blocks_joined, header, regions_by_log, roots_are_null_or_live,
+};
 use raw_region::Region;
 use std::marker::Model;
 
@@ -202,6 +205,28 @@ impl Image {
         ensures { result ≡ words_alone self.now }
     {
         Heap::new(self.regions.as_slice(), self.region_log)
+    }
+
+    /// The size of the object at address `a`, in words, with its header.
+    #[inline]
+    pub fn size_at(&self, a: u64) -> u64
+        requires { a < heap_words self.now }
+        ensures value { result ≡ size_at self.now a }
+        ensures few { result < 2 ^ 32 }
+    {
+        image_is_valid(self);
+        u64::from(header::size(self.word(a)))
+    }
+
+    /// The number of references of the object at address `a`.
+    #[inline]
+    pub fn references_at(&self, a: u64) -> u64
+        requires { a < heap_words self.now }
+        ensures value { result ≡ references_at self.now a }
+        ensures few { result < 2 ^ 32 }
+    {
+        image_is_valid(self);
+        u64::from(header::references(self.word(a)))
     }
 
     /// The word at address `a`.

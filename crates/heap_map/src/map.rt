@@ -7,7 +7,7 @@ ghost use Rattle.heap_map.specs.Cells.{area_of, cell_at, cell_count, cell_start,
 use crate::area::Area;
 use crate::cell::Cell;
 use crate::laws::live_word_after;
-use heap_image::{Image, header};
+use heap_image::Image;
 use std::alloc::{AllocError, Global};
 use summary::Survey;
 use summary::laws::live_words::live_words_by_blocks;
@@ -170,7 +170,7 @@ fn last_end(image: &Image) -> u64
     ensures { result ≡ last_end image.now }
 {
     match image.live().last() {
-        Some(a) => *a + u64::from(header::size(image.word(*a))),
+        Some(a) => *a + image.size_at(*a),
         None => 0,
     }
 }

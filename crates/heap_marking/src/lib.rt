@@ -9,12 +9,10 @@
 //! several threads mark, and that this is faster.
 #![tactic(auto)]
 
-mod crowd;
 mod laws;
 mod live_list;
 mod marking;
 
-pub use crowd::Crowd;
 pub use laws::marks_are_listed;
 pub use live_list::{marked_addresses, marked_by_crowd};
 pub use marking::{Marked, mark, mark_by_crowd};

@@ -3,10 +3,10 @@ ghost use Rattle.heap_marking.specs.LiveList.{IsRange, MayWrite, addresses_from}
 ghost use Rattle.std.specs.Prelude.{◌≡◌, ◌<◌, ◌≤◌, ◌+◌, ◌^◌, ◌++◌, OnOk, IfOk, length, map, take};
 ghost use Rattle.object_heap.specs.Bits.{addresses_between, addresses_of, ones_of};
 
-use crate::crowd::Crowd;
 use object_heap::{Bits, ones_of};
 use std::alloc::{AllocError, Global};
 use std::thread::{Threads, join_mut};
+use thread_row::Many;
 
 /// The least number of words of bits that are worth a thread.
 const LEAST_WORDS: usize = 4_096;
@@ -24,7 +24,7 @@ pub fn marked_addresses(alloc: Global, bits: &Bits) -> Result<Vec<u64>, AllocErr
 pub fn marked_by_crowd<T: Threads + Sync>(
     alloc: Global,
     bits: &Bits,
-    crowd: &Crowd<'_, T>,
+    crowd: &Many<'_, T>,
 ) -> Result<Vec<u64>, AllocError>
     requires few { length bits.now < 2 ^ 58 }
     ensures { IfOk result (λ live. live.items ≡ addresses_of bits.now) }

@@ -12,13 +12,13 @@ mod part;
 mod rounds;
 mod start;
 
-use crate::crowd::Crowd;
 use object_heap::header::{self, is_unsound};
 use object_heap::{Bits, Heap, reachable_is_the_least_closed};
 use rounds::Rounds;
 use start::part_log;
 use std::alloc::{AllocError, Global};
 use std::thread::Threads;
+use thread_row::Many;
 
 /// The least number of words of a heap that is worth more than one thread.
 const LEAST_WORDS: u64 = 1 << 19;
@@ -80,7 +80,7 @@ pub fn mark_by_crowd<T: Threads + Sync>(
     alloc: Global,
     heap: &Heap<'_>,
     roots: &[u64],
-    crowd: &Crowd<'_, T>,
+    crowd: &Many<'_, T>,
 ) -> Result<Marked, AllocError>
     ensures reached { IfOk result (λ marked. AreReached heap.now roots.now marked.bits) }
     ensures well_formed { IfOk result
@@ -98,7 +98,7 @@ fn mark_in_rounds<T: Threads + Sync>(
     alloc: Global,
     heap: &Heap<'_>,
     roots: &[u64],
-    crowd: &Crowd<'_, T>,
+    crowd: &Many<'_, T>,
 ) -> Result<Marking, AllocError>
     requires some { 0 < heap_words heap.now }
     ensures { IfOk result (IsUnderway heap.now roots.now) }
@@ -194,6 +194,7 @@ impl Marking {
         ensures growth { OnOk result (Grows (refers_to heap.now object.address) self.old self.new) }
         ensures well_formed { OnOk result (Notes self.old.well_formed self.new.well_formed (IsWellFormed heap.now object.address)) }
     {
+        heap.own();
         if is_unsound(object.header, object.address, heap.len()) {
             self.well_formed = false;
             return Ok(());

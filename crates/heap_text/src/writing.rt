@@ -3,7 +3,7 @@ ghost use Rattle.std.specs.Prelude.{◌≡◌, ◌++◌, ◌+◌, ◌-◌, ◌�
 ghost use Rattle.object_heap.specs.HeapImage.{HasSoundHeader, end_of, heap_words};
 ghost use Rattle.heap_text.specs.Text.{are_equal, dead_text, dead_words_text, front_text, number_line, lines_from, number_text, numbers_text, object_text, reference_text, references_text, roots_line, roots_text, text_of};
 
-use heap_image::{Image, header, image_is_valid};
+use heap_image::{Image, image_is_valid};
 use std::alloc::{AllocError, Global};
 
 /// Returns the text of an image.
@@ -87,10 +87,10 @@ fn write_object(text: &mut String, image: &Image, place: u64) -> Result<u64, All
     ensures end { IfOk result (λ end. end ≡ end_of image.now place) }
 {
     image_is_valid(image);
-    let word = image.word(place);
-    let behind = place + 1 + u64::from(header::references(word));
-    let end = place + u64::from(header::size(word));
-    write!(text, "@{place} object {}", header::size(word))?;
+    let behind = place + 1 + image.references_at(place);
+    let size = image.size_at(place);
+    let end = place + size;
+    write!(text, "@{place} object {size}")?;
     write_references(text, image, place + 1, behind)?;
     write_numbers(text, image, "data", behind, end)?;
     text.push_str("\n")?;

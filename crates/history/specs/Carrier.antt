@@ -3,6 +3,7 @@ use Rattle.std.specs.Prelude.{◌≡◌, ℕ, ◌+◌, ◌<◌, Bool, false, ◌
 use Rattle.object_heap.specs.HeapImage.{HeapImage, IsValid, heap_words}
 use Rattle.summary.specs.NewAddresses.{prefix_end, new_top}
 use Rattle.summary.specs.WordMoves.{origin}
+use Rattle.summary.specs.Own.{IsOwn}
 use Rattle.summary.specs.Updates.{is_late_reference}
 use Rattle.history.specs.WordMachine.{is_redirected}
 use Rattle.history.specs.declared.machine.carrier.Carrier.{Carrier}
@@ -26,6 +27,7 @@ pub record AreSet (old new : List Bool) (begin end : ℕ) : Type 0 where
 -- the invariant of a carrier
 pub record IsCarrier (carrier : Carrier) : Type 0 where
   pub valid : IsValid carrier.plan.now
+  pub own : IsOwn carrier.plan.now
   pub marks : carrier.marks.now ≡ carrier.plan.now
   pub origins : AreOrigins carrier.plan.now carrier.origins.items
   pub early : AreFlags carrier.plan.now (is_redirected carrier.plan.now) carrier.early.items

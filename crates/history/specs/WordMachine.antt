@@ -5,7 +5,7 @@ use Rattle.object_heap.specs.HeapImage.{HeapImage, region_words, word_at}
 use Rattle.summary.specs.NewAddresses.{new_top}
 use Rattle.summary.specs.WordMoves.{origin}
 use Rattle.summary.specs.Fillers.{filler_word}
-use Rattle.summary.specs.Compaction.{is_reference_of, is_deferred, redirected, moved_word}
+use Rattle.summary.specs.Compaction.{is_reference_of, is_deferred, redirected_word, moved_word}
 use Rattle.history.specs.Slide.{Slide, Machine, machine_from, write_words, AreMachineSteps}
 use Rattle.scheduler.specs.ImageMoves.{image_table}
 use Rattle.scheduler.specs.MoveTable.{to_fill}
@@ -27,7 +27,7 @@ module _ (image : HeapImage) where
         size = region_words image;
         top = new_top image;
         origin = origin image;
-        carried = λ q word. if is_redirected q then redirected image word else word;
+        carried = λ q word. if is_redirected q then redirected_word image word else word;
         filler = filler_word image;
       }
 

@@ -10,5 +10,5 @@
 mod marker;
 mod soundness;
 
-pub use marker::{Alone, Marker};
+pub use marker::Marker;
 pub use soundness::{PIECE, is_null_or_live, sizes_if_sound};

@@ -11,18 +11,12 @@ ghost use Rattle.object_heap.specs.Sizes.{AreSizes};
 ghost use Rattle.live_objects.specs.Soundness.{AreAllNoted, AreBeginsOrWellFormed, AreKnown, AreNoted, IsSoundObject, LeadToLive, WordsLeadToLive};
 
 use crate::marker::Marker;
-use heap_marking::Crowd;
 use object_heap::header::{self, is_unsound};
 use object_heap::{Bits, Heap, objects_without_faults};
-use std::alloc::{AllocError, Global};
-use std::thread::Threads;
-use thread_row::for_each_mut;
+use std::alloc::Global;
 
 /// The number of objects of a piece.
 pub const PIECE: usize = 64;
-
-/// The least number of pieces that are worth a thread.
-const LEAST_PIECES: usize = 16;
 
 /// The sizes in words of the live objects, if all of them are sound. The marker's threads visit each object once. Returns
 /// `None` also if memory runs out.
@@ -52,58 +46,8 @@ pub fn sizes_if_sound<M: Marker>(
     }
 }
 
-/// The size of each sound live object, and 0 for each unsound one. Runs in the caller's thread alone.
-pub fn note_all_alone(
-    alloc: Global,
-    heap: &Heap<'_>,
-    live: &[u64],
-    begins: Option<&Bits>,
-) -> Result<Vec<[u32; PIECE]>, AllocError>
-    requires { AreKnown heap.now live.now begins }
-    ensures room { IfOk result (λ sizes. length live.now ≤ 64 * length sizes.items) }
-    ensures noted { IfOk result (λ sizes. AreAllNoted (with_live heap.now live.now) sizes.items) }
-{
-    let mut sizes = vec![in alloc; [0u32; PIECE]; live.len().div_ceil(PIECE)]?;
-    note_pieces(heap, live, begins, sizes.as_mut_slice());
-    Ok(sizes)
-}
-
-/// Notes the sizes of the sound live objects of all pieces.
-fn note_pieces(heap: &Heap<'_>, live: &[u64], begins: Option<&Bits>, sizes: &mut [[u32; PIECE]])
-    requires known { AreKnown heap.now live.now begins }
-    requires pieces { (p : ℕ) → p < length sizes.old → 64 * p < length live.now }
-    ensures count { length sizes.new ≡ length sizes.old }
-    ensures noted { AreAllNoted (with_live heap.now live.now) sizes.new }
-{
-    for piece in 0..sizes.len() {
-        note_sizes(heap, live, begins, piece, &mut sizes[piece]);
-    }
-}
-
-/// The size of each sound live object, and 0 for each unsound one.
-pub fn note_all_by_crowd<T: Threads + Sync>(
-    alloc: Global,
-    heap: &Heap<'_>,
-    live: &[u64],
-    begins: Option<&Bits>,
-    crowd: &Crowd<'_, T>,
-) -> Result<Vec<[u32; PIECE]>, AllocError>
-    requires { AreKnown heap.now live.now begins }
-    ensures room { IfOk result (λ sizes. length live.now ≤ 64 * length sizes.items) }
-    ensures noted { IfOk result (λ sizes. AreAllNoted (with_live heap.now live.now) sizes.items) }
-{
-    let mut sizes = vec![in alloc; [0u32; PIECE]; live.len().div_ceil(PIECE)]?;
-    let count = crowd.most.min(sizes.len() / LEAST_PIECES).max(1);
-    let note = |piece: usize, sizes: &mut [u32; PIECE]|
-        requires { AreKnown heap.now live.now begins × (64 * piece < length live.now) }
-        ensures { AreNoted (with_live heap.entry.now live.entry.now) piece sizes.new }
-    { note_sizes(heap, live, begins, piece, sizes) };
-    for_each_mut(crowd.threads, sizes.as_mut_slice(), count, &note);
-    Ok(sizes)
-}
-
 /// Notes the sizes of the sound live objects of a piece.
-fn note_sizes(
+pub(crate) fn note_sizes(
     heap: &Heap<'_>,
     live: &[u64],
     begins: Option<&Bits>,
@@ -154,6 +98,7 @@ fn size_if_sound(heap: &Heap<'_>, live: &[u64], begins: Option<&Bits>, i: usize)
     ensures sound { 0 < result → IsSoundObject (with_live heap.now live.now) i }
     ensures size { 0 < result → result ≡ size_at (with_live heap.now live.now) (slice_index live.now i) }
 {
+    heap.own();
     let header = heap.word(live[i]);
     if is_sound(heap, live, begins, i, header) {
         header::size(header)
@@ -172,6 +117,7 @@ fn is_sound(heap: &Heap<'_>, live: &[u64], begins: Option<&Bits>, i: usize, head
     ensures { IsTrue result → IsSoundObject (with_live heap.now live.now) i }
 {
     objects_without_faults();
+    heap.own();
     let a = live[i];
     if is_unsound(header, a, heap.len()) {
         return false;

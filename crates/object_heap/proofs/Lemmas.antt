@@ -1,3 +1,4 @@
+pub mod Layouts
 pub mod Places
 pub mod Masks
 pub mod Words

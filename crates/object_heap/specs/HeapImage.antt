@@ -2,7 +2,7 @@
 use Rattle.std.specs.Prelude.{◌≡◌, ℕ, zero, suc, ◌+◌, ◌-◌, ◌*◌, ◌/◌, ◌%◌, ◌^◌, ◌<◌, ◌≤◌, Bool, not, ◌&&◌, ◌||◌, nat_lt, nat_le, ◌==◌, IsTrue, List, [], length, take, drop, fold, filter, All, count_by, slice_index, Option, None, Some, IfSome}
 use Rattle.std.specs.List.{concat, list_any, range_with_len, AllAdjacentBelow}
 use Rattle.std.specs.Option.{is_some}
-use Rattle.object_heap.specs.Header.{size_of, references_of, kind_of}
+use Rattle.object_heap.specs.Layout.{Layout, Own, IsLayout, size_in, references_in, kind_in, reference_in}
 use Rattle.object_heap.specs.Version.{Allows, has_roots, number_of}
 use Rattle.object_heap.specs.declared.version.Version.{Version}
 use Rattle.object_heap.specs.declared.version.Version.TheVariants.{One}
@@ -12,6 +12,7 @@ use Rattle.object_heap.specs.declared.version.Version.TheVariants.{One}
 -- roots.
 pub record HeapImage : Type 0 where
   pub version : Version
+  pub layout : Layout
   pub region_log : ℕ
   pub allowance : ℕ
   pub words : List ℕ
@@ -55,20 +56,20 @@ module _ (image : HeapImage) where
 
   -- of the object at a: its size, its number of references, its kind, and the address after its last word
   abbrev pub size_at : ℕ → ℕ
-  size_at a = size_of (word_at a)
+  size_at a = size_in image.layout (word_at a)
 
   abbrev pub references_at : ℕ → ℕ
-  references_at a = references_of (word_at a)
+  references_at a = references_in image.layout (word_at a)
 
   abbrev pub kind_at : ℕ → ℕ
-  kind_at a = kind_of (word_at a)
+  kind_at a = kind_in image.layout (word_at a)
 
   abbrev pub end_of : ℕ → ℕ
   end_of a = a + size_at a
 
   -- the f-th reference of the object at a, from 0: the references follow the header
   abbrev pub reference_at : ℕ → ℕ → ℕ
-  reference_at a f = word_at (a + 1 + f)
+  reference_at a f = reference_in image.layout (word_at (a + 1 + f))
 
   -- a reference is 0, which is null, or 1 plus the address of a live object
   abbrev pub is_null_or_live : ℕ → Bool
@@ -153,6 +154,8 @@ pub record IsWithinLimits (region_log words live_count : ℕ) : Type 0 where
   pub few_live : live_count ≤ words
 
 pub record IsValid (image : HeapImage) : Type 0 where
+  pub own : image.layout ≡ Own
+  pub lawful : IsLayout image.layout (heap_words image)
   pub limits : IsWithinLimits image.region_log (heap_words image) (length image.live)
   pub allowed : Allows image.version image.region_log (heap_words image)
   pub allowance_fits : image.allowance < 2 ^ 64
@@ -168,7 +171,7 @@ AreBlocks region_log blocks = All (λ block. length block ≡ 2 ^ region_log) bl
 -- the image of the heap whose regions hold these blocks, one after the other
 abbrev pub image_of : ℕ → ℕ → List (List ℕ) → List ℕ → HeapImage
 image_of region_log allowance blocks live =
-    record { version = One; region_log = region_log; allowance = allowance; words = concat blocks; live = live; roots = None }
+    record { version = One; layout = Own; region_log = region_log; allowance = allowance; words = concat blocks; live = live; roots = None }
 
 -- the same heap with these live objects, and without roots
 abbrev pub with_live : HeapImage → List ℕ → HeapImage
@@ -181,7 +184,7 @@ words_alone image = record image { version = One; allowance = 0; live = []; root
 -- the image of the same blocks in any version, with roots or without
 abbrev pub versioned_image_of : Version → ℕ → ℕ → List (List ℕ) → List ℕ → Option (List ℕ) → HeapImage
 versioned_image_of version region_log allowance blocks live roots =
-    record { version = version; region_log = region_log; allowance = allowance; words = concat blocks; live = live; roots = roots }
+    record { version = version; layout = Own; region_log = region_log; allowance = allowance; words = concat blocks; live = live; roots = roots }
 
 -- blocks of this size form a heap that is not too large
 pub record FormHeap (region_log : ℕ) (blocks : List (List ℕ)) : Type 0 where

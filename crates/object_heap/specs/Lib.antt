@@ -1,4 +1,5 @@
 pub mod Header
+pub mod Layout
 pub mod Version
 pub mod HeapImage
 pub mod Bits

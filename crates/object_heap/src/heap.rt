@@ -1,5 +1,6 @@
 //! The words of a heap, without live objects and roots.
 ghost use Rattle.std.specs.Prelude.{◌≡◌, ◌<◌, ◌≤◌, ◌+◌, ℕ, [], length, slice_index};
+ghost use Rattle.object_heap.specs.Layout.{Own};
 ghost use Rattle.object_heap.specs.HeapImage.{FormHeap, image_of, heap_words, word_at, size_at, reference_at};
 
 use crate::header;
@@ -65,6 +66,7 @@ impl<'a> Heap<'a> {
         requires { a < heap_words self.now }
         ensures { result ≡ size_at self.now a }
     {
+        self.own();
         u64::from(header::size(self.word(a)))
     }
 
@@ -75,7 +77,16 @@ impl<'a> Heap<'a> {
         ensures { result ≡ reference_at self.now a f }
     {
         is_small(self);
+        self.own();
         self.word(a + 1 + u64::from(f))
+    }
+
+    /// A law: the layout is that of images in files.
+    #[inline]
+    pub fn own(&self)
+        ensures { self.now.layout ≡ Own }
+    {
+        let _regions = &self.regions;
     }
 
     /// The words from address `from` up to `to`, or up to the end of the region of `from` if that comes first.

@@ -4,6 +4,7 @@ ghost use Rattle.std.specs.Prelude.{◌≡◌, false, None, slice_index, ◌+◌
 ghost use Rattle.std.specs.List.{concat, range_with_len};
 ghost use Rattle.object_heap.specs.Bits.{has};
 ghost use Rattle.object_heap.specs.HeapImage.{HeapImage, IsValid, HasLiveList, HasSoundHeader, AreBlocks, heap_words, is_null_or_live, is_unsound, reachable, reference_at, references_at, roots_of};
+ghost use Rattle.object_heap.specs.Layout.{Coding, Coded, Own, IsCoding, IsLayout, coded_reference, coded_redirected, ocaml, scheme48};
 ghost use Rattle.object_heap.specs.Reachable.{is_listed, IsClosed};
 ghost use Rattle.object_heap.specs.LiveLaws.{LiveLaws};
 ghost use Rattle.object_heap.specs.ObjectFaults.{dangling, overlapping, unsound_header};
@@ -70,4 +71,22 @@ pub fn objects_without_faults()
         → IsTrue (is_null_or_live image (reference_at image (slice_index image.live i) f)) }
     ensures live_list { (image : HeapImage) → unsound_header image ≡ None → overlapping image ≡ None
         → dangling image ≡ None → HasLiveList image }
+{}
+
+/// A reference of a host's layout that is redirected leads where it is to, and any other word stays.
+#[inline]
+pub fn coded_references_are_redirected()
+    ensures leads { (c : Coding) (words : ℕ) → IsCoding c words → (w r : ℕ) → 0 < coded_reference c w → 0 < r → r ≤ words
+        → coded_reference c (coded_redirected c w r) ≡ r }
+    ensures stays { (c : Coding) (w : ℕ) → coded_redirected c w (coded_reference c w) ≡ w }
+    ensures fits { (c : Coding) (words : ℕ) → IsCoding c words → (w r : ℕ) → w < 2 ^ 64 → r ≤ words → coded_redirected c w r < 2 ^ 64 }
+{}
+
+/// The layout of images in files and those of hosts keep what proofs need; OCaml's and Scheme 48's numbers are such.
+#[inline]
+pub fn layouts_are_lawful()
+    ensures own { (words : ℕ) → words < 2 ^ 64 → IsLayout Own words }
+    ensures coded { (c : Coding) (words : ℕ) → IsCoding c words → IsLayout (Coded c) words }
+    ensures of_ocaml { (start words : ℕ) → start + 8 + 8 * words ≤ 2 ^ 64 → IsCoding (ocaml start words) words }
+    ensures of_scheme48 { (start words : ℕ) → start + 11 + 8 * words ≤ 2 ^ 64 → IsCoding (scheme48 start words) words }
 {}

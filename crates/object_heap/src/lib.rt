@@ -17,7 +17,8 @@ mod version;
 pub use bits::{Bits, ones_of};
 pub use heap::{Heap, is_small};
 pub use laws::{
-    blocks_joined, inserted_bit, live_laws, live_objects_are_reached, objects_without_faults,
-    reachable_is_the_least_closed, regions_by_log, roots_are_null_or_live,
+    blocks_joined, coded_references_are_redirected, inserted_bit, layouts_are_lawful, live_laws,
+    live_objects_are_reached, objects_without_faults, reachable_is_the_least_closed,
+    regions_by_log, roots_are_null_or_live,
 };
 pub use version::Version;

@@ -2,6 +2,11 @@
 ghost use Rattle.std.specs.Prelude.{◌≡◌, ◌≤◌, IsTrue, true};
 ghost use Rattle.object_heap.specs.Version.{Allows, IsForRoots, has_roots, magic, max_region_log, max_regions, max_words, number_of};
 
+use crate::limits::{
+    MAX_REGION_LOG_V2, MAX_REGION_LOG_V3, MAX_REGIONS_V2, MAX_REGIONS_V3, MAX_WORDS_V2,
+    MAX_WORDS_V3,
+};
+
 /// A version of the format.
 #[derive(Debug, Clone, Copy, PartialEq, Eq)]
 pub enum Version {
@@ -52,8 +57,8 @@ impl Version {
         ensures few { result ≤ 20 }
     {
         match self {
-            Version::One | Version::Two => 16,
-            Version::Three => 20,
+            Version::One | Version::Two => MAX_REGION_LOG_V2,
+            Version::Three => MAX_REGION_LOG_V3,
         }
     }
 
@@ -63,8 +68,8 @@ impl Version {
         ensures few { result ≤ 68719476736 }
     {
         match self {
-            Version::One | Version::Two => 4_194_304,
-            Version::Three => 68_719_476_736,
+            Version::One | Version::Two => MAX_WORDS_V2,
+            Version::Three => MAX_WORDS_V3,
         }
     }
 
@@ -74,8 +79,8 @@ impl Version {
         ensures few { result ≤ 1048576 }
     {
         match self {
-            Version::One | Version::Two => 16_384,
-            Version::Three => 1_048_576,
+            Version::One | Version::Two => MAX_REGIONS_V2,
+            Version::Three => MAX_REGIONS_V3,
         }
     }
 

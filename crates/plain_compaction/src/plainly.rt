@@ -2,7 +2,7 @@
 
 ghost use Rattle.std.specs.Prelude.{true, ◌≡◌, ◌+◌, ◌-◌, ◌*◌, ◌^◌, ◌<◌, ◌≤◌, IfOk, IfNone, map, option_map, count_by};
 ghost use Rattle.std.specs.List.{list_any, range_with_len};
-ghost use Rattle.object_heap.specs.HeapImage.{region_count, word_at, size_at, is_word_of, is_live_word, is_dead_word, last_end};
+ghost use Rattle.object_heap.specs.HeapImage.{region_count, word_at, size_at, references_at, is_word_of, is_live_word, is_dead_word, last_end};
 ghost use Rattle.summary.specs.NewAddresses.{prefix_end, next_after, next_at, new_address, new_live, new_top};
 ghost use Rattle.summary.specs.WordMoves.{origin};
 ghost use Rattle.summary.specs.Fillers.{gap_at, filler_word};
@@ -14,6 +14,7 @@ use heap_image::{Image, ImageParts, header};
 use raw_region::Region;
 use std::alloc::{AllocError, Global};
 use summary::laws::plan_laws;
+use summary::laws::plans::image_is_own;
 use summary::{FILLER_STRIDE, filler_limit};
 
 /// Where the live objects of an image go.
@@ -49,6 +50,7 @@ pub fn compact_plainly(alloc: Global, image: &Image) -> Result<Image, AllocError
     ensures { IfOk result (λ new. new ≡ compact image.now) }
 {
     plan_laws();
+    image_is_own(image);
     let places = Placement::of(alloc, image)?;
     let mut regions = Vec::new(alloc);
     for r in 0..image.regions() {
@@ -135,6 +137,7 @@ fn carried(image: &Image, prefix: u64, q: u64) -> u64
     requires { IsPrefix image.now prefix }
     ensures { result ≡ carried image.now (λ _. true) q }
 {
+    image_is_own(image);
     let word = word_or_zero(image, q);
     if is_reference(image, q) {
         redirected(image, prefix, word)
@@ -295,13 +298,21 @@ fn is_reference(image: &Image, q: u64) -> bool
 fn is_reference_of(image: &Image, a: u64, q: u64) -> bool
     ensures { result ≡ is_reference_of image.now a q }
 {
-    a < q && q - a <= u64::from(header::references(word_or_zero(image, a)))
+    a < q && q - a <= references_at(image, a)
+}
+
+fn references_at(image: &Image, a: u64) -> u64
+    ensures { result ≡ references_at image.now a }
+{
+    image_is_own(image);
+    u64::from(header::references(word_or_zero(image, a)))
 }
 
 fn size_at(image: &Image, a: u64) -> u64
     ensures value { result ≡ size_at image.now a }
     ensures small { result < 2 ^ 32 }
 {
+    image_is_own(image);
     u64::from(header::size(word_or_zero(image, a)))
 }
 

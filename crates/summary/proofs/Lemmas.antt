@@ -3,7 +3,8 @@ pub mod LiveWords
 mod Rows
 mod TargetRows
 pub mod Graph
-pub mod Layouts
+pub mod Places
+pub mod RegionPlaces
 pub mod Telling
 pub mod Prefix
 pub mod Addresses
@@ -18,6 +19,7 @@ pub mod Readers
 pub mod Objects
 pub mod Fillers
 pub mod Updates
+pub mod Own
 pub mod Blocks
 pub mod Steps
 pub mod OwnStarts

@@ -1,6 +1,7 @@
 -- The compacted heap, and the heap between the moves and the update of deferred objects.
 use Rattle.std.specs.Prelude.{ℕ, ◌+◌, ◌-◌, Bool, true, not, ◌&&◌, nat_lt, nat_le, ◌==◌, if◌then◌else◌, List, map, Option, Some, None, option_map}
 use Rattle.std.specs.List.{list_any, range_with_len}
+use Rattle.object_heap.specs.Layout.{reference_in, redirected_in}
 use Rattle.object_heap.specs.HeapImage.{HeapImage, heap_words, region_of, word_at, size_at, references_at}
 use Rattle.summary.specs.NewAddresses.{new_address, new_end_of, new_live, new_top}
 use Rattle.summary.specs.WordMoves.{origin}
@@ -11,13 +12,17 @@ module _ (image : HeapImage) where
   abbrev pub redirected : ℕ → ℕ
   redirected w = if w == 0 then 0 else new_address image (w - 1) + 1
 
+  -- a word that is a reference, redirected
+  abbrev pub redirected_word : ℕ → ℕ
+  redirected_word w = redirected_in image.layout w (redirected (reference_in image.layout w))
+
   -- q is one of the references of the object at a, which follow its header
   abbrev pub is_reference_of : ℕ → ℕ → Bool
   is_reference_of a q = nat_lt a q && nat_le q (a + references_at image a)
 
   -- the words of the object at a, its references redirected
   abbrev pub object_image : ℕ → List ℕ
-  object_image a = map (λ q. if is_reference_of a q then redirected (word_at image q) else word_at image q) (range_with_len a (size_at image a))
+  object_image a = map (λ q. if is_reference_of a q then redirected_word (word_at image q) else word_at image q) (range_with_len a (size_at image a))
 
   -- a live object is deferred if its new words cross the end of the region in which they begin
   abbrev pub is_deferred : ℕ → Bool
@@ -25,7 +30,7 @@ module _ (image : HeapImage) where
 
   -- the word at the old address q, redirected if it is a reference of a live object that passes the test
   abbrev pub carried : (ℕ → Bool) → ℕ → ℕ
-  carried test q = if list_any (λ a. is_reference_of a q && test a) image.live then redirected (word_at image q) else word_at image q
+  carried test q = if list_any (λ a. is_reference_of a q && test a) image.live then redirected_word (word_at image q) else word_at image q
 
   -- the word to write at p, below the new top: the one that goes there, or else the word of a filler
   abbrev pub written : (ℕ → Bool) → Option ℕ → ℕ → ℕ

@@ -3,11 +3,13 @@ pub mod NewAddresses
 pub mod WordMoves
 pub mod Fillers
 pub mod Compaction
+pub mod Own
+pub mod Redirection
 pub mod RegionData
 pub mod RegionRow
 pub mod Updates
 pub mod SameGraph
-pub mod Layout
+pub mod RegionPlaces
 pub mod Sources
 pub mod Report
 pub mod Ranks

@@ -3,12 +3,13 @@
 use Rattle.std.specs.Prelude.{◌≡◌, ℕ, ◌+◌, ◌-◌, ◌%◌, ◌≤◌, ◌<◌, nat_lt, Bool, true, false, cond, ◌&&◌, List, Option, Some, None, map, option_map}
 use Rattle.std.specs.List.{range_with_len, list_any}
 use Rattle.object_heap.specs.declared.version.Version.{Version}
+use Rattle.object_heap.specs.Layout.{Own}
 use Rattle.object_heap.specs.HeapImage.{HeapImage, HasLiveList, IsValid, AreBlocks, versioned_image_of, heap_words, region_words, region_count, region_of, start_of, word_at, size_at, references_at, end_of, is_live_word, live_words}
 use Rattle.summary.specs.LiveObjects.{object_count, object_at}
 use Rattle.summary.specs.NewAddresses.{prefix_end, new_address, new_end_of, new_live, new_top}
 use Rattle.summary.specs.WordMoves.{slid, origin, reads, is_to_fill}
 use Rattle.summary.specs.Fillers.{filler_limit, gap_at}
-use Rattle.summary.specs.Compaction.{is_reference_of, is_deferred, redirected, moved_word, compacted_word, compact}
+use Rattle.summary.specs.Compaction.{is_reference_of, is_deferred, redirected, moved_word, compacted_word, compact, redirected_word}
 use Rattle.summary.specs.RegionData.{data_words, destination, source, reader_count, fill_count, region_addresses}
 use Rattle.summary.specs.Updates.{is_late_reference}
 
@@ -76,11 +77,11 @@ pub record PlanLaws : Type 0 where
   pub reference-owner : (image : HeapImage) → HasLiveList image → (test : ℕ → Bool) (i q : ℕ) → i < object_count image → object_at image i ≤ q → q < end_of image (object_at image i)
       → list_any (λ a. is_reference_of image a q && test a) image.live ≡ (is_reference_of image (object_at image i) q && test (object_at image i))
   pub moved-reference : (image : HeapImage) → HasLiveList image → (i f : ℕ) → i < object_count image → f < references_at image (object_at image i)
-      → moved_word image (new_address image (object_at image i) + (1 + f)) ≡ cond (is_deferred image (object_at image i)) (word_at image (object_at image i + (1 + f))) (redirected image (word_at image (object_at image i + (1 + f))))
+      → moved_word image (new_address image (object_at image i) + (1 + f)) ≡ cond (is_deferred image (object_at image i)) (word_at image (object_at image i + (1 + f))) (redirected_word image (word_at image (object_at image i + (1 + f))))
   pub moved-same : (image : HeapImage) → HasLiveList image → (p : ℕ) → p < new_top image → is_late_reference image p ≡ false → moved_word image p ≡ compacted_word image p
-  pub moved-late : (image : HeapImage) → HasLiveList image → (p : ℕ) → is_late_reference image p ≡ true → compacted_word image p ≡ redirected image (moved_word image p)
+  pub moved-late : (image : HeapImage) → HasLiveList image → (p : ℕ) → is_late_reference image p ≡ true → compacted_word image p ≡ redirected_word image (moved_word image p)
   -- the compacted image and its blocks
   pub compact-IsValid : (image : HeapImage) → IsValid image → IsValid (compact image)
-  pub parts-of_blocks : (image : HeapImage) (version : Version) (log allowance r : ℕ) (regions : List (List ℕ)) (live : List ℕ) (roots : Option (List ℕ)) → heap_words image % region_words image ≡ 0
+  pub parts-of_blocks : (image : HeapImage) → image.layout ≡ Own → (version : Version) (log allowance r : ℕ) (regions : List (List ℕ)) (live : List ℕ) (roots : Option (List ℕ)) → heap_words image % region_words image ≡ 0
       → version ≡ image.version → log ≡ image.region_log → allowance ≡ image.allowance → regions ≡ map (λ k. map (compacted_word image) (region_addresses image k)) (range_with_len 0 r) → r ≡ region_count image
       → live ≡ new_live image → roots ≡ option_map (map (redirected image)) image.roots → AreBlocks log regions × (versioned_image_of version log allowance regions live roots ≡ compact image)

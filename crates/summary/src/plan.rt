@@ -2,21 +2,22 @@
 
 ghost use Rattle.std.specs.Prelude.{◌≡◌, ◌+◌, ◌<◌, ◌≤◌, length, map, All, IfOk, IfErr, IsTrue, Contains, string_bytes};
 ghost use Rattle.raw_region.specs.Region.{with_words, part};
-ghost use Rattle.object_heap.specs.HeapImage.{IsValid, region_count, region_words, is_null_or_live};
+ghost use Rattle.object_heap.specs.HeapImage.{IsValid, region_count, region_words, is_live_word, is_null_or_live};
 ghost use Rattle.image_streams.specs.declared.fault.Fault.TheVariants.{Memory};
+ghost use Rattle.summary.specs.WordMoves.{slid};
 ghost use Rattle.summary.specs.NewAddresses.{prefix_end, new_address, new_top};
 ghost use Rattle.summary.specs.Compaction.{redirected};
 ghost use Rattle.summary.specs.RegionData.{region_data, deferred, fill_count};
-ghost use Rattle.summary.specs.Layout.{AreRegionCounts};
+ghost use Rattle.summary.specs.RegionPlaces.{AreRegionCounts};
 ghost use Rattle.summary.specs.Plan.{sources, sources_from};
 ghost use Rattle.summary.specs.Report.{report};
 
 mod counting;
 mod deferred;
-pub(crate) mod layout;
 mod ranks;
 mod redirections;
 pub(crate) mod region_counts;
+pub(crate) mod region_places;
 pub(crate) mod sources;
 
 use crate::reads::Reads;
@@ -187,6 +188,15 @@ impl Plan {
         ensures { result ≡ new_address self.now a }
     {
         self.redirections.new_address(a)
+    }
+
+    /// Where the live word at `q` goes, the first of its object or not: a host's interior pointers need it.
+    #[inline]
+    pub fn new_place(&self, q: u64) -> u64
+        requires { IsTrue (is_live_word self.now q) }
+        ensures { result ≡ slid self.now q }
+    {
+        self.redirections.new_place(q)
     }
 
     /// The reference to the same object after the collection; null stays null.

@@ -3,11 +3,11 @@
 ghost use Rattle.std.specs.Prelude.{◌≡◌, ◌<◌, ◌≤◌, IfOk, length};
 ghost use Rattle.object_heap.specs.HeapImage.{IsValid, region_words, region_count};
 ghost use Rattle.summary.specs.NewAddresses.{prefix_end, new_top};
-ghost use Rattle.summary.specs.Layout.{AreRegionCounts};
+ghost use Rattle.summary.specs.RegionPlaces.{AreRegionCounts};
 ghost use Rattle.summary.specs.Plan.{AreRegions};
 
-use crate::plan::layout::Layout;
 use crate::plan::region_counts::RegionCounts;
+use crate::plan::region_places::RegionPlaces;
 use crate::plan::sources::set_sources;
 use crate::region_row::RegionRow;
 use heap_image::Image;
@@ -59,11 +59,11 @@ impl RegionTable {
         requires { AreRegionCounts image.now counts.now }
         ensures { IfOk result (λ table. table ≡ image.now) }
     {
-        let Layout {
+        let RegionPlaces {
             mut regions,
             prefix_end,
             new_top,
-        } = Layout::of(alloc, image, counts)?;
+        } = RegionPlaces::of(alloc, image, counts)?;
         set_sources(image, prefix_end, regions.as_mut_slice());
         Ok(RegionTable {
             image: Snapshot::of(image),

@@ -1,9 +1,10 @@
 -- The words of an image compared with the compaction of another, and the laws of that compaction.
 use Rattle.std.specs.Prelude.{◌≡◌, ℕ, zero, suc, ◌+◌, ◌-◌, ◌<◌, ◌≤◌, ◌≢◌, if◌then◌else◌, IsTrue, true, false, slice_range}
-use Rattle.object_heap.specs.HeapImage.{HeapImage, IsValid, HasSoundHeader, heap_words, word_at, size_at, references_at, reference_at, end_of, is_null_or_live, is_live_word, last_end}
+use Rattle.object_heap.specs.HeapImage.{HeapImage, IsValid, HasSoundHeader, heap_words, word_at, size_at, references_at, end_of, is_null_or_live, is_live_word, last_end}
 use Rattle.summary.specs.LiveObjects.{object_count, object_at}
 use Rattle.summary.specs.NewAddresses.{prefix_end, new_address, new_end_of, new_top}
 use Rattle.summary.specs.WordMoves.{slid}
+use Rattle.summary.specs.Own.{IsOwn}
 use Rattle.summary.specs.Compaction.{is_reference_of, redirected, object_image, compact}
 
 -- at addresses `from` up to `to`, the words of `after` are those of the compaction of `before`
@@ -29,7 +30,7 @@ pub record IsGap (image : HeapImage) (a b : ℕ) : Type 0 where
 pub record IsPlaced (image : HeapImage) (a place : ℕ) : Type 0 where
   pub valid : IsValid image
   pub sound : HasSoundHeader image a
-  pub references : (f : ℕ) → f < references_at image a → IsTrue (is_null_or_live image (reference_at image a f))
+  pub references : (f : ℕ) → f < references_at image a → IsTrue (is_null_or_live image (word_at image (a + 1 + f)))
   pub inside : place + size_at image a ≤ heap_words image
   pub words : (j : ℕ) → j < size_at image a
       → word_at (compact image) (place + j) ≡ (if is_reference_of image a (a + j) then redirected image (word_at image (a + j)) else word_at image (a + j))
@@ -50,6 +51,7 @@ IsObjectCompacted before after i = AreCompacted before after (behind (new_ends b
 -- the laws of the new addresses of live objects, for one image
 pub record AreKnown (image : HeapImage) : Type 0 where
   pub valid : IsValid image
+  pub own : IsOwn image
   pub below_end : prefix_end image ≤ last_end image
   pub owner : (q : ℕ) → is_live_word image q ≡ true → (i : ℕ) × (i < object_count image) × (object_at image i ≤ q) × (q < end_of image (object_at image i))
   pub live : (i q : ℕ) → i < object_count image → object_at image i ≤ q → q < end_of image (object_at image i) → is_live_word image q ≡ true

@@ -15,6 +15,7 @@ root_at image i = slice_index (roots_of image) i
 
 -- two images are alike in all but their words, live addresses and roots
 pub record HaveSameShape (wanted found : HeapImage) : Type 0 where
+  pub layout : found.layout ≡ wanted.layout
   pub region_log : found.region_log ≡ wanted.region_log
   pub words : heap_words found ≡ heap_words wanted
   pub allowance : found.allowance ≡ wanted.allowance

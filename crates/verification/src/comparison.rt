@@ -19,6 +19,7 @@ use summary::laws::live_words::words_of_objects;
 use summary::laws::new_addresses::{
     new_address_by_counting, no_gaps_above_the_prefix, objects_keep_their_order,
 };
+use summary::laws::plans::image_is_own;
 use summary::laws::region_data::regions_to_fill;
 use summary::{Survey, filler_limit};
 
@@ -174,7 +175,7 @@ impl Comparison<'_> {
         }
         let a = self.before.live()[i - 1];
         let place = self.survey.plan().new_address(self.survey.marks(), a);
-        place + object_words(self.before, a)
+        place + self.before.size_at(a)
     }
 
     /// The same in the dead words before an object, which become fillers.
@@ -242,7 +243,7 @@ impl Comparison<'_> {
             (IsFirstOther self.now.before.now self.now.after.now
             (place + 1) (place + 1 + references_at self.now.before.now a)) }
     {
-        for f in 0..object_references(self.before, a) {
+        for f in 0..self.before.references_at(a) {
             let reference = self.before.word(a + 1 + f);
             if self.after.word(place + 1 + f) != self.survey.plan().redirected(reference) {
                 return Some(place + 1 + f);
@@ -260,8 +261,8 @@ impl Comparison<'_> {
             (IsFirstOther self.now.before.now self.now.after.now
             (place + 1 + references_at self.now.before.now a) (place + size_at self.now.before.now a)) }
     {
-        let done = 1 + object_references(self.before, a);
-        let left = object_words(self.before, a) - done;
+        let done = 1 + self.before.references_at(a);
+        let left = self.before.size_at(a) - done;
         let j = first_unlike(self.after, place + done, self.before, a + done, left)?;
         Some(place + done + j)
     }
@@ -360,6 +361,7 @@ pub(crate) fn objects_are_placed(image: &Image)
     ensures { AreKnown image.now }
 {
     image_is_valid(image);
+    image_is_own(image);
     prefix_end_is_greatest();
     words_of_objects();
     new_address_by_counting();
@@ -373,26 +375,12 @@ pub(crate) fn objects_are_placed(image: &Image)
 fn have_same_shape(before: &Image, after: &Image) -> bool
     ensures { IsTrue result ↔ HaveSameShape before.now after.now }
 {
+    image_is_valid(before);
+    image_is_valid(after);
     after.region_log() == before.region_log()
         && after.len() == before.len()
         && after.allowance() == before.allowance()
         && after.live().len() == before.live().len()
         && after.version() == before.version()
         && after.roots().len() == before.roots().len()
-}
-
-/// The size of the object at `a`, in words.
-pub(crate) fn object_words(image: &Image, a: u64) -> u64
-    requires { a < heap_words image.now }
-    ensures { result ≡ size_at image.now a }
-{
-    u64::from(header::size(image.word(a)))
-}
-
-/// The number of references of the object at `a`.
-pub(crate) fn object_references(image: &Image, a: u64) -> u64
-    requires { a < heap_words image.now }
-    ensures { result ≡ references_at image.now a }
-{
-    u64::from(header::references(image.word(a)))
 }

@@ -11,7 +11,7 @@ ghost use Rattle.verification.specs.Difference.{AreAlike};
 ghost use Rattle.verification.specs.Verdict.{root_count, root_at};
 ghost use Rattle.summary.specs.Compaction.{redirected};
 
-use crate::comparison::{object_references, object_words, objects_are_placed};
+use crate::comparison::objects_are_placed;
 use crate::difference_tally::{OtherWord, Tally};
 use crate::verdict_explanation::{
     ExplainedWord, Explanation, Lead, Moved, OtherLive, OtherRoot, Part,
@@ -127,7 +127,7 @@ impl WordComparison<'_> {
             let place = self.survey.plan().new_address(self.survey.marks(), a);
             self.compare_gap(&mut tally, next, place)?;
             self.compare_object(&mut tally, a, place)?;
-            next = place + object_words(self.before, a);
+            next = place + self.before.size_at(a);
         }
         self.compare_free(&mut tally, next, limit)?;
         Ok(tally)
@@ -193,7 +193,7 @@ impl WordComparison<'_> {
             (place + 1 + references_at self.now.before.now a) tally.new) }
     {
         image_is_valid(self.before);
-        for f in 0..object_references(self.before, a) {
+        for f in 0..self.before.references_at(a) {
             let reference = self.before.word(a + 1 + f);
             let expected = self.survey.plan().redirected(reference);
             let p = place + 1 + f;
@@ -211,7 +211,7 @@ impl WordComparison<'_> {
             (place + size_at self.now.before.now a) tally.new) }
     {
         image_is_valid(self.before);
-        for j in 1 + object_references(self.before, a)..object_words(self.before, a) {
+        for j in 1 + self.before.references_at(a)..self.before.size_at(a) {
             let p = place + j;
             tally.compare(p, self.before.word(a + j), self.after.word(p))?;
         }
@@ -320,9 +320,9 @@ impl WordComparison<'_> {
         objects_are_placed(self.before);
         for &a in self.before.live() {
             let place = self.survey.plan().new_address(self.survey.marks(), a);
-            if place <= p && p - place < object_words(self.before, a) {
+            if place <= p && p - place < self.before.size_at(a) {
                 let moved = Moved { old: a, new: place };
-                return part_of(moved, p - place, object_references(self.before, a));
+                return part_of(moved, p - place, self.before.references_at(a));
             }
         }
         if p < self.survey.plan().new_top() {

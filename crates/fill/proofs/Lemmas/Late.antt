@@ -7,10 +7,10 @@ use Rattle.std.proofs.lemmas.Bool.{cases_lt, cases_eq, true≢false, and_parts, 
 use Rattle.std.proofs.lemmas.List.{ext_get_or, get_or-set_same, get_or-set_other}
 use Rattle.std.proofs.lemmas.List.Folds.{list_any-append, list_any_at, Any-from_list_any}
 use Rattle.std.proofs.lemmas.List.FromFn.{get_or-map-range_with_len, length-map-range_with_len, get_or-range_with_len, length-range_with_len}
-use Rattle.object_heap.specs.Header.{references_of}
-use Rattle.object_heap.specs.HeapImage.{HeapImage, HasLiveList, heap_words, word_at, size_at, references_at, reference_at, is_null_or_live}
+use Rattle.object_heap.specs.Layout.{references_in, reference_in}
+use Rattle.object_heap.specs.HeapImage.{HeapImage, HasLiveList, heap_words, word_at, size_at, references_at, is_null_or_live}
 use Rattle.summary.specs.NewAddresses.{new_address}
-use Rattle.summary.specs.Compaction.{moved_word, redirected, is_deferred}
+use Rattle.summary.specs.Compaction.{moved_word, redirected_word, is_deferred}
 use Rattle.summary.specs.RegionData.{deferred}
 use Rattle.summary.specs.Updates.{is_late_reference}
 use Rattle.fill.proofs.Lemmas.Lists.{range_with_len-add}
@@ -39,7 +39,7 @@ module _ (image : HeapImage) where
 
     -- a word that the test does not pass is a moved one
     pub words_not : (test : ℕ → Bool) (k : ℕ) → k < n → test (a + k) ≡ false → get_or (words_by test) k 0 ≡ moved_word image (a + k)
-    words_not test k l e = words_at test k l ∙ ap (λ b. cond b (redirected image (moved_word image (a + k))) (moved_word image (a + k))) e
+    words_not test k l e = words_at test k l ∙ ap (λ b. cond b (redirected_word image (moved_word image (a + k))) (moved_word image (a + k))) e
 
     -- tests that agree on these addresses
     pub words_same : (test next : ℕ → Bool) → ((p : ℕ) → a ≤ p → p < a + n → test p ≡ next p) → words_by test ≡ words_by next
@@ -48,10 +48,10 @@ module _ (image : HeapImage) where
         let two = length-words next in
         ext_get_or 0 (words_by test) (words_by next) (omega arith) (λ k l.
         let m : k < n = omega arith in
-        words_at test k m ∙ ap (λ b. cond b (redirected image (moved_word image (a + k))) (moved_word image (a + k))) (h (a + k) (omega arith) (omega arith)) ∙ sym (words_at next k m))
+        words_at test k m ∙ ap (λ b. cond b (redirected_word image (moved_word image (a + k))) (moved_word image (a + k))) (h (a + k) (omega arith) (omega arith)) ∙ sym (words_at next k m))
 
     -- one more reference is redirected
-    pub words_set : (test next : ℕ → Bool) (p w : ℕ) → p < n → w ≡ redirected image (moved_word image (a + p)) → next (a + p) ≡ true → ((q : ℕ) → (q ≡ a + p → ⊥) → test q ≡ next q)
+    pub words_set : (test next : ℕ → Bool) (p w : ℕ) → p < n → w ≡ redirected_word image (moved_word image (a + p)) → next (a + p) ≡ true → ((q : ℕ) → (q ≡ a + p → ⊥) → test q ≡ next q)
         → set (words_by test) p w ≡ words_by next
     words_set test next p w l e pass others =
         let one = length-words test in
@@ -64,10 +64,10 @@ module _ (image : HeapImage) where
           | inl same ↦
               let one = length-words test in
               ap (λ i. get_or (set (words_by test) p w) i 0) same ∙ get_or-set_same (words_by test) p w 0 (omega arith) ∙ e
-              ∙ sym (ap (λ i. get_or (words_by next) i 0) same ∙ words_at next p l ∙ ap (λ b. cond b (redirected image (moved_word image (a + p))) (moved_word image (a + p))) pass)
+              ∙ sym (ap (λ i. get_or (words_by next) i 0) same ∙ words_at next p l ∙ ap (λ b. cond b (redirected_word image (moved_word image (a + p))) (moved_word image (a + p))) pass)
           | inr other ↦
               get_or-set_other (words_by test) p k w 0 other ∙ words_at test k m
-              ∙ ap (λ b. cond b (redirected image (moved_word image (a + k))) (moved_word image (a + k))) (others (a + k) (λ same. other (omega arith))) ∙ sym (words_at next k m)
+              ∙ ap (λ b. cond b (redirected_word image (moved_word image (a + k))) (moved_word image (a + k))) (others (a + k) (λ same. other (omega arith))) ∙ sym (words_at next k m)
         ]
 
   abbrev late_in : ℕ → ℕ → Bool
@@ -80,19 +80,19 @@ module _ (image : HeapImage) where
       ∙ list_any-append (late_in p) (range_with_len 0 d) (d ∷ [])
       ∙ ap (λ b. list_any (late_in p) (range_with_len 0 d) || b) (or_false (late_in p d) ∙ ap (λ o. is_late_behind image o p) e)
 
-  pub behind-from : (x p : ℕ) → x < p → p ≤ x + references_of (moved_word image x) → is_reference_behind image x p ≡ true
-  behind-from x p l m = and_from (ltb x p) (leb p (x + references_of (moved_word image x))) (lt-ltb x p l) (le-leb p (x + references_of (moved_word image x)) m)
+  pub behind-from : (x p : ℕ) → x < p → p ≤ x + references_in image.layout (moved_word image x) → is_reference_behind image x p ≡ true
+  behind-from x p l m = and_from (ltb x p) (leb p (x + references_in image.layout (moved_word image x))) (lt-ltb x p l) (le-leb p (x + references_in image.layout (moved_word image x)) m)
 
-  pub behind-parts : (x p : ℕ) → is_reference_behind image x p ≡ true → (x < p) × (p ≤ x + references_of (moved_word image x))
+  pub behind-parts : (x p : ℕ) → is_reference_behind image x p ≡ true → (x < p) × (p ≤ x + references_in image.layout (moved_word image x))
   behind-parts x p h =
-      let both = and_parts (ltb x p) (leb p (x + references_of (moved_word image x))) h in
-      (ltb-true x p both.0, leb-true p (x + references_of (moved_word image x)) both.1)
+      let both = and_parts (ltb x p) (leb p (x + references_in image.layout (moved_word image x))) h in
+      (ltb-true x p both.0, leb-true p (x + references_in image.layout (moved_word image x)) both.1)
 
-  some_behind : (o : Option ℕ) (p : ℕ) → is_late_behind image o p ≡ true → (x : ℕ) × (o ≡ Some x) × (x < p) × (p ≤ x + references_of (moved_word image x))
+  some_behind : (o : Option ℕ) (p : ℕ) → is_late_behind image o p ≡ true → (x : ℕ) × (o ≡ Some x) × (x < p) × (p ≤ x + references_in image.layout (moved_word image x))
   some_behind None p h = absurd (true≢false (sym h))
   some_behind (Some x) p h = let both = behind-parts x p h in (x, refl, both.0, both.1)
 
-  pub late-parts : (d p : ℕ) → is_late_before image d p ≡ true → (e : ℕ) × (x : ℕ) × (e < d) × (deferred image e ≡ Some x) × (x < p) × (p ≤ x + references_of (moved_word image x))
+  pub late-parts : (d p : ℕ) → is_late_before image d p ≡ true → (e : ℕ) × (x : ℕ) × (e < d) × (deferred image e ≡ Some x) × (x < p) × (p ≤ x + references_in image.layout (moved_word image x))
   late-parts d p h =
       let at = Any-from_list_any (late_in p) (range_with_len 0 d) h in
       let long = length-range_with_len 0 d in
@@ -102,7 +102,7 @@ module _ (image : HeapImage) where
       let some = some_behind (deferred image at.0) p (ap (late_in p) is ∙ at.4) in
       (at.0, some.0, m, some.1, some.2, some.3)
 
-  pub late-from : (d p e x : ℕ) → e < d → deferred image e ≡ Some x → x < p → p ≤ x + references_of (moved_word image x) → is_late_before image d p ≡ true
+  pub late-from : (d p e x : ℕ) → e < d → deferred image e ≡ Some x → x < p → p ≤ x + references_in image.layout (moved_word image x) → is_late_before image d p ≡ true
   late-from d p e x l is m n =
       let long = length-range_with_len 0 d in
       list_any_at (late_in p) (range_with_len 0 d) e 0 (omega arith)
@@ -137,14 +137,14 @@ module _ (image : HeapImage) where
   pub up_to-not : (d x p : ℕ) → is_late_before image d p ≡ false → late_up_to d x p p ≡ false
   up_to-not d x p e = or_from (is_late_before image d p) (ltb x p && ltb p p) e (and_right (ltb x p) (ltb p p) (le-ltb p p (omega arith)))
 
-  pub up_to-end : (d x p q : ℕ) → deferred image d ≡ Some x → p ≡ x + 1 + references_of (moved_word image x) → late_up_to d x p q ≡ is_late_before image (d + 1) q
-  up_to-end d x p q e end = ap (λ b. is_late_before image d q || (ltb x q && b)) (same_Bool (ltb q p) (leb q (x + references_of (moved_word image x)))
-      (λ h. let l : q < p = ltb-true q p h in le-leb q (x + references_of (moved_word image x)) (omega arith))
-      (λ h. let l : q ≤ x + references_of (moved_word image x) = leb-true q (x + references_of (moved_word image x)) h in lt-ltb q p (omega arith)))
+  pub up_to-end : (d x p q : ℕ) → deferred image d ≡ Some x → p ≡ x + 1 + references_in image.layout (moved_word image x) → late_up_to d x p q ≡ is_late_before image (d + 1) q
+  up_to-end d x p q e end = ap (λ b. is_late_before image d q || (ltb x q && b)) (same_Bool (ltb q p) (leb q (x + references_in image.layout (moved_word image x)))
+      (λ h. let l : q < p = ltb-true q p h in le-leb q (x + references_in image.layout (moved_word image x)) (omega arith))
+      (λ h. let l : q ≤ x + references_in image.layout (moved_word image x) = leb-true q (x + references_in image.layout (moved_word image x)) h in lt-ltb q p (omega arith)))
       ∙ sym (late-next d q (Some x) e)
 
-  pub late-all : (n p : ℕ) → ((h : is_late_reference image p ≡ true) → (d : ℕ) × (x : ℕ) × (deferred image d ≡ Some x) × (x < p) × (p ≤ x + references_of (moved_word image x)))
-      → ((d x : ℕ) → deferred image d ≡ Some x → x < p → p ≤ x + references_of (moved_word image x) → is_late_reference image p ≡ true)
+  pub late-all : (n p : ℕ) → ((h : is_late_reference image p ≡ true) → (d : ℕ) × (x : ℕ) × (deferred image d ≡ Some x) × (x < p) × (p ≤ x + references_in image.layout (moved_word image x)))
+      → ((d x : ℕ) → deferred image d ≡ Some x → x < p → p ≤ x + references_in image.layout (moved_word image x) → is_late_reference image p ≡ true)
       → ((d x : ℕ) → deferred image d ≡ Some x → x < p → d < n) → is_late_before image n p ≡ is_late_reference image p
   late-all n p late told few = same_Bool (is_late_before image n p) (is_late_reference image p)
       (λ h. let at = late-parts n p h in told at.0 at.1 at.3 at.4 at.5)
@@ -153,13 +153,13 @@ module _ (image : HeapImage) where
   -- ---- the deferred object whose new words begin at x
   module _ (sound : HasLiveList image) (d x : ℕ) (here : deferred image d ≡ Some x) where
     abbrev n : ℕ
-    n = references_of (moved_word image x)
+    n = references_in image.layout (moved_word image x)
 
     abbrev Told : Type 0
-    Told = (p e y : ℕ) → deferred image e ≡ Some y → y < p → p ≤ y + references_of (moved_word image y) → is_late_reference image p ≡ true
+    Told = (p e y : ℕ) → deferred image e ≡ Some y → y < p → p ≤ y + references_in image.layout (moved_word image y) → is_late_reference image p ≡ true
 
     abbrev Once : Type 0
-    Once = (p e f y z : ℕ) → deferred image e ≡ Some y → deferred image f ≡ Some z → y < p → p ≤ y + references_of (moved_word image y) → z < p → p ≤ z + references_of (moved_word image z) → (e ≡ f) × (y ≡ z)
+    Once = (p e f y z : ℕ) → deferred image e ≡ Some y → deferred image f ≡ Some z → y < p → p ≤ y + references_in image.layout (moved_word image y) → z < p → p ≤ z + references_in image.layout (moved_word image z) → (e ≡ f) × (y ≡ z)
 
     -- its references belong to no deferred object of an earlier region
     pub not_before : Once → (p : ℕ) → x < p → p ≤ x + n → is_late_before image d p ≡ false
@@ -181,16 +181,16 @@ module _ (image : HeapImage) where
       a = get_or image.live i 0
 
       references_are : n ≡ references_at image a
-      references_are = ap (λ p. references_of (moved_word image p)) (sym goes) ∙ ap references_of header
+      references_are = ap (λ p. references_in image.layout (moved_word image p)) (sym goes) ∙ ap (references_in image.layout) header
 
-      pub late_sound : is_deferred image a ≡ true → ((f : ℕ) → f < references_at image a → moved_word image (new_address image a + (1 + f)) ≡ cond (is_deferred image a) (word_at image (a + (1 + f))) (redirected image (word_at image (a + (1 + f)))))
-          → (p : ℕ) → x < p → p ≤ x + n → is_null_or_live image (moved_word image p) ≡ true
+      pub late_sound : is_deferred image a ≡ true → ((f : ℕ) → f < references_at image a → moved_word image (new_address image a + (1 + f)) ≡ cond (is_deferred image a) (word_at image (a + (1 + f))) (redirected_word image (word_at image (a + (1 + f)))))
+          → (p : ℕ) → x < p → p ≤ x + n → is_null_or_live image (reference_in image.layout (moved_word image p)) ≡ true
       late_sound late each p l m =
           let are = references_are in
           let f : ℕ = p - x - 1 in
           let few : f < references_at image a = omega arith in
           let to : new_address image a + (1 + f) ≡ p = omega arith in
           let from : a + (1 + f) ≡ a + 1 + f = omega arith in
-          let is : moved_word image p ≡ reference_at image a f = ap (moved_word image) (sym to) ∙ each f few
-          ∙ ap (λ b. cond b (word_at image (a + (1 + f))) (redirected image (word_at image (a + (1 + f))))) late ∙ ap (word_at image) from in
-          subst (λ (w : ℕ). is_null_or_live image w ≡ true) (sym is) (sound.references i 0 inside f few)
+          let is : moved_word image p ≡ word_at image (a + 1 + f) = ap (moved_word image) (sym to) ∙ each f few
+          ∙ ap (λ b. cond b (word_at image (a + (1 + f))) (redirected_word image (word_at image (a + (1 + f))))) late ∙ ap (word_at image) from in
+          subst (λ (w : ℕ). is_null_or_live image (reference_in image.layout w) ≡ true) (sym is) (sound.references i 0 inside f few)

@@ -10,9 +10,9 @@ use Rattle.std.proofs.lemmas.List.{map-append}
 use Rattle.std.proofs.lemmas.List.Elements.{All-append}
 use Rattle.std.proofs.lemmas.List.Folds.{concat-append}
 use Rattle.std.proofs.lemmas.List.FromFn.{get_or-map-range_with_len, length-map-range_with_len}
-use Rattle.object_heap.specs.Header.{references_of}
+use Rattle.object_heap.specs.Layout.{references_in}
 use Rattle.object_heap.specs.HeapImage.{HeapImage, IsValid, FormHeap, AreBlocks, heap_words, region_words, region_count, region_of, start_of}
-use Rattle.summary.specs.Compaction.{moved_word, redirected}
+use Rattle.summary.specs.Compaction.{moved_word, redirected_word}
 use Rattle.summary.specs.RegionData.{region_addresses, deferred}
 use Rattle.summary.specs.Updates.{is_late_reference}
 use Rattle.fill.proofs.Lemmas.Lists.{range_with_len-add}
@@ -102,8 +102,8 @@ module _ (image : HeapImage) where
 
   -- once all regions of a part are visited, all late references in it are redirected
   pub part_late : (first count : ℕ)
-      → ((p : ℕ) → is_late_reference image p ≡ true → (d : ℕ) × (x : ℕ) × (deferred image d ≡ Some x) × (x < p) × (p ≤ x + references_of (moved_word image x)))
-      → ((p d x : ℕ) → deferred image d ≡ Some x → x < p → p ≤ x + references_of (moved_word image x) → is_late_reference image p ≡ true)
+      → ((p : ℕ) → is_late_reference image p ≡ true → (d : ℕ) × (x : ℕ) × (deferred image d ≡ Some x) × (x < p) × (p ≤ x + references_in image.layout (moved_word image x)))
+      → ((p d x : ℕ) → deferred image d ≡ Some x → x < p → p ≤ x + references_in image.layout (moved_word image x) → is_late_reference image p ≡ true)
       → ((d x : ℕ) → deferred image d ≡ Some x → region_of image x ≡ d)
       → words_from image first count (is_late_before image (first + count)) ≡ words_from image first count (is_late_reference image)
   part_late first count late told region =
@@ -128,11 +128,11 @@ module _ (image : HeapImage) where
 
   -- the references of an object that is deferred in a part lie in that part
   pub late_inside : (first count d x : ℕ) → first ≤ d → d < first + count → IsCut image (first + count) → deferred image d ≡ Some x → region_of image x ≡ d
-      → (start_of image first ≤ x) × (x + references_of (moved_word image x) < start_of image first + count * S)
+      → (start_of image first ≤ x) × (x + references_in image.layout (moved_word image x) < start_of image first + count * S)
   late_inside first count d x low high cut here region =
       let begin = begin_inside first count d x low high region in
       let end = part_end first count in
-      let n : ℕ = references_of (moved_word image x) in (
+      let n : ℕ = references_in image.layout (moved_word image x) in (
         begin.0,
         elim (cases_lt (x + n) (start_of image first + count * S)) [
           | inl less ↦ less
@@ -145,7 +145,7 @@ module _ (image : HeapImage) where
   -- after an object whose references end in its region, no earlier object has a reference
   pub cut_behind : (d x : ℕ) → deferred image d ≡ Some x → region_of image x ≡ d
       → ((e y : ℕ) → deferred image e ≡ Some y → region_of image y ≡ e)
-      → is_late_before image d x ≡ false → x + references_of (moved_word image x) < start_of image (d + 1) → IsCut image (d + 1)
+      → is_late_before image d x ≡ false → x + references_in image.layout (moved_word image x) < start_of image (d + 1) → IsCut image (d + 1)
   unfolding value
   cut_behind d x here region regions none ends p l = false_from_ne_true (is_late_before image (d + 1) p) (λ h.
       let at = late-parts image (d + 1) p h in
@@ -161,7 +161,7 @@ module _ (image : HeapImage) where
         | inr more ↦
             let same : e ≡ d = (let l = at.2 in omega arith) in
             let is : y ≡ x = ap value (sym at.3 ∙ ap (deferred image) same ∙ here) in
-            let n : references_of (moved_word image y) ≡ references_of (moved_word image x) = ap (λ z. references_of (moved_word image z)) is in
+            let n : references_in image.layout (moved_word image y) ≡ references_in image.layout (moved_word image x) = ap (λ z. references_in image.layout (moved_word image z)) is in
             let no : ⊥ = (let reach = at.5 in omega arith) in absurd no
       ])
 
@@ -176,7 +176,7 @@ module _ (image : HeapImage) where
     pub late_old : p < length blocks * S → is_late_before image d q ≡ false → get_or (concat blocks) p 0 ≡ moved_word image q
     late_old l none = ap (λ ws. get_or ws p 0) words ∙ words_not image (start_of image first) (length blocks * S) (late_up_to image d x q) p l (up_to-not image d x q none)
 
-    pub late_set : (w : ℕ) → p < length blocks * S → x < q → w ≡ redirected image (moved_word image q) → set (concat blocks) p w ≡ words_from image first (length blocks) (late_up_to image d x (start_of image first + (p + 1)))
+    pub late_set : (w : ℕ) → p < length blocks * S → x < q → w ≡ redirected_word image (moved_word image q) → set (concat blocks) p w ≡ words_from image first (length blocks) (late_up_to image d x (start_of image first + (p + 1)))
     late_set w l behind e =
         let next : q + 1 ≡ start_of image first + (p + 1) = omega arith in
         ap (λ ws. set ws p w) words

@@ -6,7 +6,7 @@ use Rattle.std.specs.List.{list_any}
 use Rattle.object_heap.specs.HeapImage.{HeapImage, HasLiveList, heap_words, region_words, word_at, size_at, references_at, end_of, is_live_word, live_words, reference_at}
 use Rattle.summary.specs.NewAddresses.{prefix_end, new_address, new_top}
 use Rattle.summary.specs.WordMoves.{slid, origin}
-use Rattle.summary.specs.Compaction.{moved_word, redirected, is_reference_of, is_deferred}
+use Rattle.summary.specs.Compaction.{moved_word, redirected_word, is_reference_of, is_deferred}
 use Rattle.summary.specs.PlanLaws.{PlanLaws}
 use Rattle.fill.proofs.Lemmas.Regions.{region_is, region_low, region_high, region-le, region_some}
 use Rattle.summary.specs.Compaction.{word_by}
@@ -75,13 +75,13 @@ module _ (law : PlanLaws) (image : HeapImage) (sound : HasLiveList image) where
   -- the word j of an object once it is moved
   pub moved-object : (i j : ℕ) → i < length image.live → j < size_at image (place i)
       → (copied_word image (new_address image (place i) + j) ≡ word_at image (place i + j))
-      × (moved_word image (new_address image (place i) + j) ≡ cond (is_reference_of image (place i) (place i + j) && early (place i)) (redirected image (word_at image (place i + j))) (word_at image (place i + j)))
+      × (moved_word image (new_address image (place i) + j) ≡ cond (is_reference_of image (place i) (place i + j) && early (place i)) (redirected_word image (word_at image (place i + j))) (word_at image (place i + j)))
   moved-object i j l k =
       let to = law.new_address-slid image sound i j l k in
       let live = law.is_live image sound i (place i + j) l (omega arith) (omega arith) in
       let which = law.reference-owner image sound early i (place i + j) l (omega arith) (omega arith) in (
         ap (copied_word image) to ∙ copied-slid law image sound (place i + j) live,
-        ap (word_by image early) to ∙ word_by-slid law image sound early (place i + j) live ∙ ap (λ b. cond b (redirected image (word_at image (place i + j))) (word_at image (place i + j))) which,
+        ap (word_by image early) to ∙ word_by-slid law image sound early (place i + j) live ∙ ap (λ b. cond b (redirected_word image (word_at image (place i + j))) (word_at image (place i + j))) which,
       )
 
   -- a word of a deferred object, or one that is no reference, is moved as it is copied
@@ -89,7 +89,7 @@ module _ (law : PlanLaws) (image : HeapImage) (sound : HasLiveList image) where
       → copied_word image (new_address image (place i) + j) ≡ moved_word image (new_address image (place i) + j)
   moved-same i j l k h =
       let both = moved-object i j l k in
-      both.0 ∙ sym (both.1 ∙ cond-false (is_reference_of image (place i) (place i + j) && early (place i)) (redirected image (word_at image (place i + j))) (word_at image (place i + j)) h)
+      both.0 ∙ sym (both.1 ∙ cond-false (is_reference_of image (place i) (place i + j) && early (place i)) (redirected_word image (word_at image (place i + j))) (word_at image (place i + j)) h)
 
   pub moved-deferred : (i j : ℕ) → i < length image.live → j < size_at image (place i) → is_deferred image (place i) ≡ true
       → copied_word image (new_address image (place i) + j) ≡ moved_word image (new_address image (place i) + j)
@@ -110,7 +110,7 @@ module _ (law : PlanLaws) (image : HeapImage) (sound : HasLiveList image) where
 
   -- a reference of an early object
   pub moved-reference : (i f : ℕ) → i < length image.live → f < references_at image (place i) → is_deferred image (place i) ≡ false
-      → (copied_word image (new_address image (place i) + 1 + f) ≡ reference_at image (place i) f) × (moved_word image (new_address image (place i) + 1 + f) ≡ redirected image (reference_at image (place i) f))
+      → (copied_word image (new_address image (place i) + 1 + f) ≡ word_at image (place i + 1 + f)) × (moved_word image (new_address image (place i) + 1 + f) ≡ redirected_word image (word_at image (place i + 1 + f)))
   moved-reference i f l k timely =
       let few : references_at image (place i) < size_at image (place i) = (sound.sound i 0 l).references in
       let j : ℕ = 1 + f in
@@ -121,7 +121,7 @@ module _ (law : PlanLaws) (image : HeapImage) (sound : HasLiveList image) where
       let to : new_address image a + j ≡ new_address image a + 1 + f = omega arith in
       let from : a + j ≡ a + 1 + f = omega arith in (
         ap (copied_word image) (sym to) ∙ both.0 ∙ ap (word_at image) from,
-        ap (moved_word image) (sym to) ∙ both.1 ∙ cond-true (is_reference_of image a (a + j) && early a) (redirected image (word_at image (a + j))) (word_at image (a + j)) yes ∙ ap (λ q. redirected image (word_at image q)) from,
+        ap (moved_word image) (sym to) ∙ both.1 ∙ cond-true (is_reference_of image a (a + j) && early a) (redirected_word image (word_at image (a + j))) (word_at image (a + j)) yes ∙ ap (λ q. redirected_word image (word_at image q)) from,
       )
 
   -- ---- objects one after another

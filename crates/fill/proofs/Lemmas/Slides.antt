@@ -6,7 +6,7 @@ use Rattle.std.specs.List.{list_any}
 use Rattle.object_heap.specs.HeapImage.{HeapImage, HasLiveList, heap_words, word_at, is_live_word, live_words}
 use Rattle.summary.specs.NewAddresses.{prefix_end, new_top}
 use Rattle.summary.specs.WordMoves.{slid, origin}
-use Rattle.summary.specs.Compaction.{written, carried, is_reference_of, redirected}
+use Rattle.summary.specs.Compaction.{written, carried, is_reference_of, redirected_word}
 use Rattle.summary.specs.PlanLaws.{PlanLaws}
 use Rattle.fill.proofs.Lemmas.Lists.{count_by-more_yes, count_by-none}
 use Rattle.raw_region.specs.Region.{part, with_words as put}
@@ -55,7 +55,7 @@ module _ (law : PlanLaws) (image : HeapImage) where
   slid-monotone a b l m = let e = slid-from a b l m in omega arith
 
   carried-none : (q : ℕ) → carried image (λ _. false) q ≡ word_at image q
-  carried-none q = cond-false (list_any (λ a. is_reference_of image a q && false) image.live) (redirected image (word_at image q)) (word_at image q) (none image.live)
+  carried-none q = cond-false (list_any (λ a. is_reference_of image a q && false) image.live) (redirected_word image (word_at image q)) (word_at image q) (none image.live)
     where
       none : (xs : List ℕ) → list_any (λ a. is_reference_of image a q && false) xs ≡ false
       none [] = refl

@@ -9,10 +9,11 @@ use Rattle.object_heap.specs.Bits.{NoneBetween, IsFirstBetween}
 use Rattle.mark_bitmap.specs.Marks.{is_begin}
 use Rattle.raw_region.specs.Region.{with_words, part}
 use Rattle.object_heap.specs.Header.{size_of}
+use Rattle.summary.specs.Own.{IsOwn}
 use Rattle.object_heap.specs.HeapImage.{HeapImage, HasLiveList, start_of, word_at, size_at, references_at, reference_at, is_null_or_live}
 use Rattle.summary.specs.NewAddresses.{new_address, new_top}
 use Rattle.summary.specs.WordMoves.{slid}
-use Rattle.summary.specs.Compaction.{moved_word, redirected, is_deferred}
+use Rattle.summary.specs.Compaction.{moved_word, redirected_word, is_deferred}
 use Rattle.fill.specs.WordBlocks.{IsSplitAt, Shows}
 use Rattle.fill.specs.CopiedWords.{copied_word}
 use Rattle.fill.specs.Objects.{IsObject, IsNextObject, HasNoObject, IsPassed, IsMovedTo}
@@ -39,9 +40,9 @@ module _ (law : PlanLaws) (image : HeapImage) (sound : HasLiveList image) where
   late-same a j o = subst (λ (n : ℕ). is_deferred image n ≡ true → j < size_at image n → c (new_address image n + j) ≡ m (new_address image n + j)) o.is (λ k l. moved-deferred law image sound o.index j o.inside l k)
 
   reference-moves : (a f : ℕ) → IsObject image a → is_deferred image a ≡ false → f < references_at image a
-      → (c (new_address image a + 1 + f) ≡ reference_at image a f) × (m (new_address image a + 1 + f) ≡ redirected image (reference_at image a f))
+      → (c (new_address image a + 1 + f) ≡ word_at image (a + 1 + f)) × (m (new_address image a + 1 + f) ≡ redirected_word image (word_at image (a + 1 + f)))
   reference-moves a f o = subst (λ (n : ℕ). is_deferred image n ≡ false → f < references_at image n
-      → (c (new_address image n + 1 + f) ≡ reference_at image n f) × (m (new_address image n + 1 + f) ≡ redirected image (reference_at image n f))) o.is (λ k l. moved-reference law image sound o.index f o.inside l k)
+      → (c (new_address image n + 1 + f) ≡ word_at image (n + 1 + f)) × (m (new_address image n + 1 + f) ≡ redirected_word image (word_at image (n + 1 + f)))) o.is (λ k l. moved-reference law image sound o.index f o.inside l k)
 
   pub reference-sound : (a f : ℕ) → IsObject image a → f < references_at image a → is_null_or_live image (reference_at image a f) ≡ true
   reference-sound a f o = subst (λ (n : ℕ). f < references_at image n → is_null_or_live image (reference_at image n f) ≡ true) o.is (λ l. sound.references o.index 0 o.inside f l)
@@ -55,8 +56,8 @@ module _ (law : PlanLaws) (image : HeapImage) (sound : HasLiveList image) where
       let z : a + 0 ≡ a = omega arith in
       h.above (at - start) (omega arith) (omega arith) ∙ ap c k ∙ word-copied a 0 o size.0 ∙ ap (word_at image) z
 
-  pub header-size : (a start at w n : ℕ) (xs : List ℕ) → IsMovedTo image at a → start ≤ at → at < start + length xs → IsSplitAt m c start xs at → w ≡ get_or xs (at - start) 0 → n ≡ size_of w → n ≡ size_at image a
-  header-size a start at w n xs on low high h e f = f ∙ ap size_of (e ∙ header-read a start at xs on.object on.place low high h)
+  pub header-size : (own : IsOwn image) (a start at w n : ℕ) (xs : List ℕ) → IsMovedTo image at a → start ≤ at → at < start + length xs → IsSplitAt m c start xs at → w ≡ get_or xs (at - start) 0 → n ≡ size_of w → n ≡ size_at image a
+  header-size own a start at w n xs on low high h e f = f ∙ ap size_of (e ∙ header-read a start at xs on.object on.place low high h) ∙ sym (own.sizes (word_at image a))
 
   pub object-begin : (a start at : ℕ) (xs : List ℕ) → IsObject image a → at ≡ new_address image a → IsSplitAt m c start xs at → IsSplitAt m c start xs (at + 1)
   object-begin a start at xs o e h = split_skip m c start xs at (at + 1) h (omega arith) (λ p l n k.
@@ -65,7 +66,7 @@ module _ (law : PlanLaws) (image : HeapImage) (sound : HasLiveList image) where
 
   -- a reference of an object that is not redirected yet
   pub reference-read : (a f start at : ℕ) (xs : List ℕ) → IsObject image a → is_deferred image a ≡ false → at ≡ new_address image a → start ≤ at → at + size_at image a ≤ start + length xs → f < references_at image a
-      → IsSplitAt m c start xs at → get_or xs (at - start + 1 + f) 0 ≡ reference_at image a f
+      → IsSplitAt m c start xs at → get_or xs (at - start + 1 + f) 0 ≡ word_at image (a + 1 + f)
   reference-read a f start at xs o early e low high few h =
       let size = object_size law image sound a o in
       let less : references_at image a < size_at image a = size.2 in
@@ -74,22 +75,22 @@ module _ (law : PlanLaws) (image : HeapImage) (sound : HasLiveList image) where
 
   -- all references of an object, redirected at once
   pub object-row : (a start at : ℕ) (xs : List ℕ) → IsObject image a → is_deferred image a ≡ false → at ≡ new_address image a → start ≤ at → at + size_at image a ≤ start + length xs
-      → IsSplitAt m c start xs at → IsSplitAt m c start (with_words xs (at - start + 1) (map (redirected image) (part xs (at - start + 1) (references_at image a)))) (at + 1 + references_at image a)
+      → IsSplitAt m c start xs at → IsSplitAt m c start (with_words xs (at - start + 1) (map (redirected_word image) (part xs (at - start + 1) (references_at image a)))) (at + 1 + references_at image a)
   object-row a start at xs o early e low high h =
       let n : ℕ = references_at image a in
       let from : ℕ = at - start + 1 in
-      let zs : List ℕ = map (redirected image) (part xs from n) in
+      let zs : List ℕ = map (redirected_word image) (part xs from n) in
       let size = object_size law image sound a o in
       let less : n < size_at image a = size.2 in
-      let long : length zs ≡ n = length-map (part xs from n) (redirected image) ∙ length-part xs from n (omega arith) in
+      let long : length zs ≡ n = length-map (part xs from n) (redirected_word image) ∙ length-part xs from n (omega arith) in
       let i : at + 1 - start ≡ from = omega arith in
       let end : at + 1 + length zs ≡ at + 1 + n = ap (λ k. at + 1 + k) long in
       let each : (f : ℕ) → f < length zs → get_or zs f 0 ≡ m (at + 1 + f) = λ f l. (
       let few : f < n = omega arith in
       let inside : f < length (part xs from n) = omega (arith, length-part xs from n (omega arith)) in
       let k : new_address image a + 1 + f ≡ at + 1 + f = omega arith in
-      get_or-map (redirected image) (part xs from n) f 0 0 inside
-      ∙ ap (redirected image) (get_or-part xs from n f few ∙ reference-read a f start at xs o early e low high few h)
+      get_or-map (redirected_word image) (part xs from n) f 0 0 inside
+      ∙ ap (redirected_word image) (get_or-part xs from n f few ∙ reference-read a f start at xs o early e low high few h)
       ∙ sym ((reference-moves a f o early few).1) ∙ ap m k) in
       let row = split_more m c start xs zs (at + 1) (object-begin a start at xs o e h) (omega arith) (omega arith) each in
       subst (IsSplitAt m c start (with_words xs from zs)) end (subst (λ (j : ℕ). IsSplitAt m c start (with_words xs j zs) (at + 1 + length zs)) i row)

@@ -15,7 +15,7 @@ use std::thread::Threads;
 use summary::laws::compaction::blocks_of_regions;
 use summary::laws::deferred_objects::{moved_objects, one_deferred_object, update_then_clear};
 use summary::laws::new_addresses::objects_keep_their_order;
-use summary::laws::plans::planned_image_is_valid;
+use summary::laws::plans::{planned_image_is_own, planned_image_is_valid};
 use summary::laws::region_data::regions_to_fill;
 use summary::{Plan, Survey};
 
@@ -94,6 +94,7 @@ fn update_region(regions: &mut [Region], plan: &Plan, first: u32, d: u32)
 {
     let log = plan.region_log();
     planned_image_is_valid(plan);
+    planned_image_is_own(plan);
     if let Some(begin) = plan.deferred(d) {
         late_references(plan, d, begin);
         references_in_part(plan, regions, first, d, begin);
@@ -138,6 +139,7 @@ pub(crate) fn late_references(plan: &Plan, d: u32, begin: u64)
     ensures cut { last_reference plan.now begin < start_of plan.now (d + 1) → IsCut plan.now (d + 1) }
 {
     planned_image_is_valid(plan);
+    planned_image_is_own(plan);
     moved_objects();
     objects_keep_their_order();
     one_deferred_object();

@@ -8,7 +8,7 @@ use heap_image::header::references;
 use raw_region::Region;
 use std::thread::{Threads, join_mut};
 use summary::Plan;
-use summary::laws::plans::planned_image_is_valid;
+use summary::laws::plans::{planned_image_is_own, planned_image_is_valid};
 
 /// The least number of regions to fill that is worth a thread.
 const LEAST_REGIONS: usize = 512;
@@ -106,6 +106,7 @@ fn is_cut(regions: &[Region], plan: &Plan, first: u32, cut: usize) -> bool
     ensures { IsTrue result → IsCut plan.now (first + cut) }
 {
     planned_image_is_valid(plan);
+    planned_image_is_own(plan);
     let last = first + (cut - 1) as u32;
     match plan.deferred(last) {
         Some(begin) => {

@@ -128,6 +128,7 @@ impl AfterPrefix<'_> {
         plan_laws();
         let span = self.site.span;
         self.site.guide.image_is_valid();
+        self.site.guide.image_is_own();
         let limit = self.site.guide.plan().new_top().min(span.end);
         let mut at = at;
         while at < limit {

@@ -1,4 +1,5 @@
 ghost use Rattle.std.specs.Prelude.{◌≡◌, ℕ, ◌+◌, ◌-◌, ◌<◌, ◌≤◌, ◌==◌, ◌||◌, true, false, IfSome, MatchOption, Some};
+ghost use Rattle.summary.specs.Own.{IsOwn};
 ghost use Rattle.object_heap.specs.HeapImage.{IsValid, heap_words, region_words, region_count, start_of, is_live_word};
 ghost use Rattle.summary.specs.NewAddresses.{prefix_end, new_address, new_top};
 ghost use Rattle.summary.specs.Fillers.{filler_limit, may_begin_filler};
@@ -14,7 +15,7 @@ use mark_bitmap::Marks;
 use std::marker::Model;
 use summary::laws::new_addresses::objects_keep_their_order;
 use summary::laws::plan_laws;
-use summary::laws::plans::planned_image_is_valid;
+use summary::laws::plans::{planned_image_is_own, planned_image_is_valid};
 use summary::laws::readers::sources_in_a_row;
 use summary::laws::region_data::{region_data_by_words, regions_to_fill};
 use summary::{FILLER_STRIDE, Plan, Survey, filler_limit};
@@ -61,6 +62,14 @@ impl<'a> Guide<'a> {
         ensures { IsValid self.now }
     {
         planned_image_is_valid(self.plan);
+    }
+
+    /// A law: the image has the layout of images in files.
+    #[inline]
+    pub(crate) fn image_is_own(&self)
+        ensures { IsOwn self.now }
+    {
+        planned_image_is_own(self.plan);
     }
 
     #[inline]

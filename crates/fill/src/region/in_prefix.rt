@@ -80,6 +80,7 @@ impl InPrefix<'_> {
         plan_laws();
         let span = self.site.span;
         self.site.guide.image_is_valid();
+        self.site.guide.image_is_own();
         let mut from = span.start;
         while let Some(a) = self.site.guide.next_object(from, span.end) {
             let header = target.get((a - span.start) as usize);

@@ -70,6 +70,7 @@ impl<'a> Site<'a> {
     {
         plan_laws();
         self.guide.image_is_valid();
+        self.guide.image_is_own();
         let first = (at - self.span.start) as usize;
         let count = references(target.get(first)) as usize;
         target.redirect(self.guide.plan(), first + 1, count);

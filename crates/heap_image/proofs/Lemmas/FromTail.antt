@@ -1,5 +1,5 @@
 -- An image of the numbers after the words of a text.
-use Rattle.std.proofs.Common.{◌≡◌, ℕ, ◌+◌, ◌≤◌, true, List, length, get_or, refl, sym, ◌∙◌, ap, subst, arith, ltb, Some, None}
+use Rattle.std.proofs.Common.{◌≡◌, ◌^◌, ◌<◌, ℕ, ◌+◌, ◌≤◌, true, List, length, get_or, refl, sym, ◌∙◌, ap, subst, arith, ltb, Some, None}
 use Rattle.std.proofs.lemmas.Bool.{ltb-false, true≢false}
 use Rattle.std.proofs.lemmas.List.Elements.{All-from_get_or}
 use Rattle.std.proofs.lemmas.List.FromFn.{get_or-range_with_len, length-range_with_len}
@@ -10,6 +10,8 @@ use Rattle.heap_image.specs.Reading.{HasFittingNumbers}
 use Rattle.image_streams.specs.declared.fault.Fault.TheVariants.{Root}
 use Rattle.object_heap.specs.HeapImage.{HeapImage, IsValid, AreRoots, heap_words, with_live, reachable, roots_or}
 use Rattle.heap_image.specs.ImageText.{text, listed_text, with_tail, from_tail, live_list_faults, first_some}
+use Rattle.object_heap.specs.Header.{size_of, filler_header}
+use Rattle.object_heap.specs.Layout.{Layout, Own, IsLayout}
 use Rattle.object_heap.specs.ObjectFaults.{misplaced_root}
 use Rattle.object_heap.specs.Version.{Allows, has_roots}
 use Rattle.object_heap.specs.declared.version.Version.{Version}
@@ -34,6 +36,20 @@ inside_of words roots none = All-from_get_or (λ w. w ≤ words) roots 0 (λ i l
     zero_plus : (k : ℕ) → 0 + k ≡ k
     zero_plus k = omega arith
 
+own_size : (n : ℕ) → n ≤ 2147483648 → size_of (filler_header n) ≡ n
+own_size n few = omega arith
+
+own_is : (words : ℕ) → words < 2 ^ 64 → IsLayout Own words
+own_is words few = record {
+  leads = λ w r _ _ _. refl;
+  stays = λ w. refl;
+  fits = λ w r _ within. omega arith;
+  filler-size = λ n _ _ l. own_size n l;
+}
+
+own_lawful : (layout : Layout) (words : ℕ) → layout ≡ Own → words < 2 ^ 64 → IsLayout layout words
+own_lawful layout words own few = subst (λ y. IsLayout y words) (sym own) (own_is words few)
+
 -- in a version with roots
 module _ (version : Version) (some : has_roots version ≡ true) (image : HeapImage) (fits : HasFittingNumbers version image) where
   abbrev rooted : HeapImage
@@ -43,6 +59,8 @@ module _ (version : Version) (some : has_roots version ≡ true) (image : HeapIm
   rooted-IsValid faultless none =
       let all : AllNone (live_list_faults rooted) = AllNone-from_first_some (live_list_faults rooted) none in
       record {
+        own = fits.own;
+        lawful = own_lawful image.layout (heap_words image) fits.own (let few = fits.limits.few_words in omega arith);
         limits = record {
           region_log_low = fits.limits.region_log_low;
           region_log_high = fits.limits.region_log_high;
@@ -68,6 +86,8 @@ module _ (version : Version) (some : has_roots version ≡ true) (image : HeapIm
 -- with nothing wrong it is valid
 pub from_tail-IsValid : IsFaultlessList → (version : Version) (image : HeapImage) → HasFittingNumbers version image → first_some (live_list_faults (from_tail version image)) ≡ None → IsValid (from_tail version image)
 from_tail-IsValid faultless One image fits none = record {
+  own = fits.own;
+  lawful = own_lawful image.layout (heap_words image) fits.own (let few = fits.limits.few_words in omega arith);
   limits = fits.limits;
   allowed = subst (λ v. Allows v image.region_log (heap_words image)) (sym fits.listed) fits.allowed;
   allowance_fits = fits.allowance;

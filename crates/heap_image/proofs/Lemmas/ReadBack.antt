@@ -193,6 +193,7 @@ module _ (bytes : List ℕ) (fit : All (λ b. b < 256) bytes) where
           live = All-map (λ w. w < 2 ^ 64) (λ i. u64_at bytes (32 + 8 * n + 8 * i)) (range_with_len 0 (encoded_count bytes)) (λ k d l. u64_fits (32 + 8 * n + 8 * get_or (range_with_len 0 (encoded_count bytes)) k d));
           plain = refl;
           listed = refl;
+          own = refl;
         }
 
     pub told-IsValid : IsFaultlessList → IsValid (encoded_image bytes)

@@ -246,6 +246,7 @@ fitting_parts version log allowance blocks live words live_count limits w l a fi
   live = live_fit;
   plain = refl;
   listed = refl;
+  own = refl;
 }
 
 -- the front and the numbers after it are the text

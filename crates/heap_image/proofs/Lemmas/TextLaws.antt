@@ -95,6 +95,7 @@ valid_numbers image valid =
       live = fits.2;
       plain = refl;
       listed = refl;
+      own = valid.own;
     }
 
 -- what is reached depends on the words alone
@@ -105,18 +106,18 @@ reachable-words image version live other roots = refl
 -- a valid image is determined by its version, its words and the numbers after them
 from_tail-of : (image : HeapImage) → IsValid image → (version : Version) → image.version ≡ version → (roots : Option (List ℕ)) → image.roots ≡ roots → is_some roots ≡ has_roots version
     → from_tail version (record image { version = One; live = roots_or image.live roots; roots = None }) ≡ image
-from_tail-of image valid One v None e h = λ i. record { version = sym v i; region_log = image.region_log; allowance = image.allowance; words = image.words; live = image.live; roots = sym e i }
+from_tail-of image valid One v None e h = λ i. record { version = sym v i; layout = image.layout; region_log = image.region_log; allowance = image.allowance; words = image.words; live = image.live; roots = sym e i }
 from_tail-of image valid One v (Some roots) e h = absurd (true≢false h)
 from_tail-of image valid Two v None e h = absurd (true≢false (sym h))
 from_tail-of image valid Two v (Some roots) e h =
     let rooted : AreRoots image roots = subst (λ o. IfSome o (AreRoots image)) e valid.rooted in
     let same = reachable-words image One roots None roots ∙ sym rooted.reached in
-    λ i. record { version = sym v i; region_log = image.region_log; allowance = image.allowance; words = image.words; live = same i; roots = sym e i }
+    λ i. record { version = sym v i; layout = image.layout; region_log = image.region_log; allowance = image.allowance; words = image.words; live = same i; roots = sym e i }
 from_tail-of image valid Three v None e h = absurd (true≢false (sym h))
 from_tail-of image valid Three v (Some roots) e h =
     let rooted : AreRoots image roots = subst (λ o. IfSome o (AreRoots image)) e valid.rooted in
     let same = reachable-words image One roots None roots ∙ sym rooted.reached in
-    λ i. record { version = sym v i; region_log = image.region_log; allowance = image.allowance; words = image.words; live = same i; roots = sym e i }
+    λ i. record { version = sym v i; layout = image.layout; region_log = image.region_log; allowance = image.allowance; words = image.words; live = same i; roots = sym e i }
 
 pub from_tail-with_tail : (image : HeapImage) → IsValid image → from_tail image.version (with_tail image) ≡ image
 from_tail-with_tail image valid = from_tail-of image valid image.version refl image.roots refl valid.versioned
@@ -164,7 +165,7 @@ module _ (version : Version) (image : HeapImage) (fits : HasFittingNumbers versi
       ap (λ n. map (λ i. u64_at bytes (32 + 8 * n + 8 * i)) (range_with_len 0 (encoded_count bytes))) words_told
       ∙ ap (λ n. map (λ i. u64_at bytes (32 + 8 * heap_words image + 8 * i)) (range_with_len 0 n)) live_told
       ∙ sym (fill_by_all (λ i. u64_at bytes (32 + 8 * heap_words image + 8 * i)) image.live (length image.live) 0 refl address_told) in
-      λ i. record { version = sym fits.listed i; region_log = log_told i; allowance = allowance_told i; words = ws i; live = ls i; roots = sym fits.plain i }
+      λ i. record { version = sym fits.listed i; layout = sym fits.own i; region_log = log_told i; allowance = allowance_told i; words = ws i; live = ls i; roots = sym fits.plain i }
 
   pub length_told : encoded_length bytes ≡ length (listed_text version image)
   length_told =

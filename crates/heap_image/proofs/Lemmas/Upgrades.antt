@@ -35,6 +35,8 @@ module _ (image : HeapImage) (valid : IsValid image) where
       let long = length-map image.live (λ a. a + 1) in
       let same = ap length e in
       record {
+        own = valid.own;
+        lawful = valid.lawful;
         limits = valid.limits;
         allowed = allowed_two image.version image.region_log (heap_words image) (sym valid.versioned ∙ ap is_some none) valid.allowed;
         allowance_fits = valid.allowance_fits;
@@ -80,6 +82,8 @@ roots_in_three image (Some roots) are = record {
 -- an image with roots is one of version 3, too
 pub in_version_three-IsValid : (image : HeapImage) → IsValid image → is_some image.roots ≡ true → IsValid (in_version_three image)
 in_version_three-IsValid image valid some = record {
+  own = valid.own;
+  lawful = valid.lawful;
   limits = valid.limits;
   allowed = allowed_three image.version image.region_log (heap_words image) valid.allowed;
   allowance_fits = valid.allowance_fits;
@@ -94,8 +98,8 @@ by_roots : (image : HeapImage) (version : Version) → image.version ≡ version
     → image ≡ (record image { version = upgraded_version version; roots = Some (roots_or (map (λ a. a + 1) image.live) roots) })
 by_roots image version v None e s h = absurd (true≢false (sym s))
 by_roots image One v (Some roots) e s h = absurd (true≢false (sym h))
-by_roots image Two v (Some roots) e s h = λ i. record { version = v i; region_log = image.region_log; allowance = image.allowance; words = image.words; live = image.live; roots = e i }
-by_roots image Three v (Some roots) e s h = λ i. record { version = v i; region_log = image.region_log; allowance = image.allowance; words = image.words; live = image.live; roots = e i }
+by_roots image Two v (Some roots) e s h = λ i. record { version = v i; layout = image.layout; region_log = image.region_log; allowance = image.allowance; words = image.words; live = image.live; roots = e i }
+by_roots image Three v (Some roots) e s h = λ i. record { version = v i; layout = image.layout; region_log = image.region_log; allowance = image.allowance; words = image.words; live = image.live; roots = e i }
 
 pub upgraded-same : (image : HeapImage) (version : Version) → version ≡ image.version → is_some image.roots ≡ has_roots version → has_roots version ≡ true → image ≡ upgraded image
 upgraded-same image version v is h = by_roots image image.version refl image.roots refl (is ∙ h) (ap has_roots (sym v) ∙ h)

@@ -16,14 +16,14 @@ ghost use Rattle.std.specs.Prelude.{◌≡◌, ◌≢◌, ◌<◌, ◌≤◌, �
 use super::front::{FRONT_BYTES, Front};
 use crate::check::unchecked::{Found, find_live_objects};
 use crate::{Fault, Image, ImageParts};
-use heap_marking::Crowd;
 use image_streams::{Body, Intake, fill, read_body_in_order};
-use live_objects::{Alone, Marker, PIECE};
+use live_objects::{Marker, PIECE};
 use object_heap::{Heap, objects_without_faults};
 use raw_region::Region;
 use rayon::current_num_threads;
 use std::alloc::Global;
 use std::thread::Threads;
+use thread_row::{Alone, Many};
 
 /// Reads an image up to the end of the input, and decides as [`decode`](crate::decode) does for these bytes. Runs in
 /// the caller's thread alone.
@@ -68,12 +68,12 @@ pub fn read_image_by_workers<R: Intake>(
     ensures refused { IfErr result (IsRefusal (R.left reader.old) (R.left reader.new)) }
     ensures io { R.has_failed reader.new ≡ is_io result }
 {
-    let crowd = Crowd {
+    let many = Many {
         threads,
         most: workers,
     };
-    let read = read_unchecked(alloc, reader, &crowd)?;
-    let sizes = read.sizes_if_sound(alloc, &crowd);
+    let read = read_unchecked(alloc, reader, &many)?;
+    let sizes = read.sizes_if_sound(alloc, &many);
     let checked = read.check(sizes.is_some());
     read.finish(reader, checked, sizes)
 }

@@ -10,12 +10,13 @@ ghost use Rattle.live_objects.specs.Soundness.{AreWellFormed};
 
 use crate::Fault;
 use crate::check::check_live;
-use heap_marking::{Crowd, marks_are_listed};
-use live_objects::{Alone, Marker, sizes_if_sound};
+use heap_marking::marks_are_listed;
+use live_objects::{Marker, sizes_if_sound};
 use object_heap::{Bits, Heap, reachable_is_the_least_closed};
 use raw_region::Region;
 use std::alloc::Global;
 use std::thread::Threads;
+use thread_row::{Alone, Many};
 
 /// Returns the addresses of all objects that are reachable from the roots, ascending, or the first fault: 17 if a root
 /// is above the number of words, and 7, 8 or 9 of the reachable objects. No image has more than 2^32 - 1 roots: more of
@@ -55,11 +56,11 @@ pub fn mark_from_roots_by_workers(
     ensures faults { MayReport result (first_in_tail Two (image_of region_log 0 regions.now []) roots.now) }
 {
     let heap = Heap::new(regions, region_log);
-    let crowd = Crowd {
+    let many = Many {
         threads,
         most: workers,
     };
-    find_and_check(alloc, &heap, roots, &crowd)
+    find_and_check(alloc, &heap, roots, &many)
 }
 
 /// Returns the addresses of the objects that are reachable from the roots of a heap, ascending, or the first fault.
@@ -97,7 +98,7 @@ fn are_apart<M: Marker>(alloc: Global, heap: &Heap<'_>, live: &[u64], marker: &M
     requires well_formed { AreWellFormed (with_live heap.now live.now) }
     ensures { IsTrue result → HasLiveList (with_live heap.now live.now) }
 {
-    marker.are_several() && sizes_if_sound(alloc, heap, live, None, marker).is_some()
+    marker.most() > 1 && sizes_if_sound(alloc, heap, live, None, marker).is_some()
 }
 
 /// The objects that are reachable from the roots of a heap, before they are checked.

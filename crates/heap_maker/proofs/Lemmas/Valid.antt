@@ -38,6 +38,7 @@ pub fitting : (version : Version) (log allowance words : ℕ) (blocks : List (Li
     → length (concat blocks) ≡ words → All (λ w. w < 2 ^ 64) (concat blocks) → length roots ≤ words → length roots < 2 ^ 32 → All (λ w. w < 2 ^ 64) roots
     → allowance < 2 ^ 64 → HasFittingNumbers version (image_of log allowance blocks roots)
 fitting version log allowance words blocks roots limits allowed count fit few counted inside fits = record {
+  own = refl;
   limits = subst (λ n. IsWithinLimits log n (length roots)) (sym count) (with_live_count log words (length roots) limits few);
   allowed = subst (λ n. Allows version log n) (sym count) allowed;
   counted = counted;
@@ -54,6 +55,8 @@ module _ (log allowance : ℕ) (blocks : List (List ℕ)) (live roots : List ℕ
   listed-valid valid =
       let list = valid.live_list in
       record {
+        own = valid.own;
+        lawful = valid.lawful;
         limits = valid.limits;
         allowed = record { region_log_high = valid.allowed.region_log_high; few_words = valid.allowed.few_words; few_regions = valid.allowed.few_regions };
         allowance_fits = valid.allowance_fits;

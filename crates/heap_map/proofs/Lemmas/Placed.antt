@@ -5,7 +5,7 @@ use Rattle.std.proofs.lemmas.Bool.{cond-false, cond-true, lt-ltb, le-ltb}
 use Rattle.std.proofs.lemmas.List.{get_or-map}
 use Rattle.std.proofs.lemmas.Nat.{le-div}
 use Rattle.std.proofs.Math.Nat.{div-mul-le_self}
-use Rattle.object_heap.specs.Header.{size_of}
+use Rattle.object_heap.specs.Layout.{size_in}
 use Rattle.object_heap.specs.HeapImage.{HeapImage, end_of, live_words}
 use Rattle.summary.specs.Compaction.{compact}
 use Rattle.summary.specs.LiveObjects.{object_at, object_count}
@@ -20,7 +20,7 @@ module _ (image : HeapImage) where
 
   pub end : (i : ℕ) → i < object_count image → IsSameGraph image (compact image)
       → end_of (compact image) (object_at (compact image) i) ≡ new_end_of image (object_at image i)
-  end i inside graph = ap₂ (λ p w. p + size_of w) (place i inside) (graph.headers i inside)
+  end i inside graph = ap₂ (λ p w. p + size_in image.layout w) (place i inside) (graph.headers i inside)
 
   -- an object of the dense prefix keeps its address
   pub stays-put : (a : ℕ) → a < prefix_end image → new_address image a ≡ a

@@ -5,16 +5,18 @@ use Rattle.std.proofs.lemmas.List.Folds.{list_any-append}
 use Rattle.std.specs.Prelude.{All}
 use Rattle.std.specs.List.{list_any, range_with_len}
 use Rattle.object_heap.specs.Header.{size_of, references_of, kind_of}
+use Rattle.object_heap.specs.Layout.{Layout, Own, size_in, references_in, kind_in, reference_in}
 use Rattle.object_heap.specs.HeapImage.{HeapImage, heap_words, references_at, reference_at, is_unsound, leads_to, refers_to}
 use Rattle.heap_marking.specs.Marking.{IsGrown, IsWellFormed}
 use Rattle.heap_marking.proofs.Lemmas.Numbers.{range_suc}
 use Rattle.heap_marking.proofs.Lemmas.Growth.{grown_same, grown_more, grown_as}
 
 module _ (image : HeapImage) (words a : ℕ) (are : words ≡ heap_words image) where
-  pub unsound_is : (word : ℕ) (bad : Bool) → word ≡ get_or image.words a 0
+  pub unsound_is : (word : ℕ) (bad : Bool) → image.layout ≡ Own → word ≡ get_or image.words a 0
       → bad ≡ (not (eqb (kind_of word) 1) || eqb (size_of word) 0 || leb (size_of word) (references_of word) || ltb words (a + size_of word)) → is_unsound image a ≡ bad
-  unsound_is word bad is tested =
-      ap (λ w. not (eqb (kind_of w) 1) || eqb (size_of w) 0 || leb (size_of w) (references_of w) || ltb (heap_words image) (a + size_of w)) (sym is)
+  unsound_is word bad own is tested =
+      ap (λ (y : Layout). not (eqb (kind_in y (get_or image.words a 0)) 1) || eqb (size_in y (get_or image.words a 0)) 0 || leb (size_in y (get_or image.words a 0)) (references_in y (get_or image.words a 0)) || ltb (heap_words image) (a + size_in y (get_or image.words a 0))) own
+      ∙ ap (λ w. not (eqb (kind_of w) 1) || eqb (size_of w) 0 || leb (size_of w) (references_of w) || ltb (heap_words image) (a + size_of w)) (sym is)
       ∙ ap (λ n. not (eqb (kind_of word) 1) || eqb (size_of word) 0 || leb (size_of word) (references_of word) || ltb n (a + size_of word)) (sym are)
       ∙ sym tested
 
@@ -116,8 +118,12 @@ module _ (image : HeapImage) (words a : ℕ) (are : words ≡ heap_words image) 
   abbrev pub IsRowAt : ℕ → List ℕ → Type 0
   IsRowAt next row = (i : ℕ) → i < length row → get_or row i 0 ≡ get_or image.words (next + i) 0
 
-  pub row_at : (next : ℕ) (row : List ℕ) → a + 1 ≤ next → IsRowAt next row → IsRow (next - (a + 1)) row
-  row_at next row low are i l = are i l ∙ ap (λ k. get_or image.words k 0) (same i)
+  -- the number of references, by the header
+  pub references_are : (word : ℕ) → image.layout ≡ Own → word ≡ get_or image.words a 0 → references_of word ≡ references_at image a
+  references_are word own is = ap references_of is ∙ sym (ap (λ (y : Layout). references_in y (get_or image.words a 0)) own)
+
+  pub row_at : image.layout ≡ Own → (next : ℕ) (row : List ℕ) → a + 1 ≤ next → IsRowAt next row → IsRow (next - (a + 1)) row
+  row_at own next row low are i l = are i l ∙ ap (λ k. get_or image.words k 0) (same i) ∙ sym (ap (λ (y : Layout). reference_in y (get_or image.words (a + 1 + (next - (a + 1) + i)) 0)) own)
     where
       same : (i : ℕ) → next + i ≡ a + 1 + (next - (a + 1) + i)
       same i = omega (arith, low)
@@ -125,13 +131,13 @@ module _ (image : HeapImage) (words a : ℕ) (are : words ≡ heap_words image) 
   pub behind_row : (next len : ℕ) → a + 1 ≤ next → next - (a + 1) + len ≡ next + len - (a + 1)
   behind_row next len low = omega (arith, low)
 
-  pub followed_row : (next : ℕ) (row b0 b1 b2 s0 s1 s2 : List ℕ) → a + 1 ≤ next → IsRowAt next row
+  pub followed_row : image.layout ≡ Own → (next : ℕ) (row b0 b1 b2 s0 s1 s2 : List ℕ) → a + 1 ≤ next → IsRowAt next row
       → IsGrown words (first_fields (next - (a + 1))) b0 b1 s0 s1 → IsGrown words (λ b. list_any (λ w. leads_to w b) row) b1 b2 s1 s2
       → IsGrown words (first_fields (next + length row - (a + 1))) b0 b2 s0 s2
-  followed_row next row b0 b1 b2 s0 s1 s2 low are one two =
-      subst (λ n. IsGrown words (first_fields n) b0 b2 s0 s2) (behind_row next (length row) low) (followed_more (next - (a + 1)) row b0 b1 b2 s0 s1 s2 (row_at next row low are) one two)
+  followed_row own next row b0 b1 b2 s0 s1 s2 low are one two =
+      subst (λ n. IsGrown words (first_fields n) b0 b2 s0 s2) (behind_row next (length row) low) (followed_more (next - (a + 1)) row b0 b1 b2 s0 s1 s2 (row_at own next row low are) one two)
 
-  pub noted_row : (next : ℕ) (row : List ℕ) (initial old new : Bool) → a + 1 ≤ next → IsRowAt next row → (new ≡ true → (old ≡ true) × All (λ w. w ≤ words) row)
+  pub noted_row : image.layout ≡ Own → (next : ℕ) (row : List ℕ) (initial old new : Bool) → a + 1 ≤ next → IsRowAt next row → (new ≡ true → (old ≡ true) × All (λ w. w ≤ words) row)
       → AreNoted initial old (next - (a + 1)) → AreNoted initial new (next + length row - (a + 1))
-  noted_row next row initial old new low are visited before =
-      subst (AreNoted initial new) (behind_row next (length row) low) (noted_more (next - (a + 1)) row initial old new (row_at next row low are) visited before)
+  noted_row own next row initial old new low are visited before =
+      subst (AreNoted initial new) (behind_row next (length row) low) (noted_more (next - (a + 1)) row initial old new (row_at own next row low are) visited before)

@@ -120,6 +120,7 @@ impl Part {
         ensures well_formed { OnOk result (Notes self.old.well_formed self.new.well_formed (IsWellFormed heap.now object.address)) }
     {
         let words = heap.len();
+        heap.own();
         if is_unsound(object.header, object.address, words) {
             self.well_formed = false;
             return Ok(());

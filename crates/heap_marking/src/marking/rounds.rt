@@ -7,12 +7,11 @@ ghost use Rattle.heap_marking.specs.Rounds.{Advances, AreExchanged, HasBegun, Ha
 use super::boxes::Boxes;
 use super::part::Part;
 use super::start::{part_count, parts_of, root_row, rows_of};
-use crate::crowd::Crowd;
 use object_heap::Heap;
 use std::alloc::{AllocError, Global};
 use std::mem;
 use std::thread::Threads;
-use thread_row::for_each_mut;
+use thread_row::{Many, for_each_mut};
 
 /// The most rounds.
 const MOST_ROUNDS: usize = 65_536;
@@ -71,7 +70,7 @@ impl Rounds {
         &mut self,
         alloc: Global,
         heap: &Heap<'_>,
-        crowd: &Crowd<'_, T>,
+        crowd: &Many<'_, T>,
     ) -> Result<(), AllocError>
         requires { HasLayout heap.now self.old }
         ensures { OnOk result (Advances heap.now self.old self.new) }
@@ -84,7 +83,7 @@ impl Rounds {
             }
             let smallness = smallness_of(load, self.parts.as_slice());
             small = small.wrapping_add(smallness);
-            let crowd = Crowd {
+            let crowd = Many {
                 threads: crowd.threads,
                 most: threads_of(smallness, crowd.most),
             };
@@ -98,7 +97,7 @@ impl Rounds {
         &mut self,
         alloc: Global,
         heap: &Heap<'_>,
-        crowd: &Crowd<'_, T>,
+        crowd: &Many<'_, T>,
     ) -> Result<(), AllocError>
         requires threads { 0 < crowd.now.most }
         requires layout { HasLayout heap.now self.old }
@@ -113,7 +112,7 @@ impl Rounds {
     }
 
     /// Each part does its work of a round.
-    fn turn_all<T: Threads + Sync>(&mut self, alloc: Global, heap: &Heap<'_>, crowd: &Crowd<'_, T>)
+    fn turn_all<T: Threads + Sync>(&mut self, alloc: Global, heap: &Heap<'_>, crowd: &Many<'_, T>)
         requires threads { 0 < crowd.now.most }
         requires layout { HasLayout heap.now self.old }
         ensures log { self.new.log ≡ self.old.log }

@@ -7,6 +7,7 @@ use Rattle.std.proofs.lemmas.List.{drop_more, length-take-le, get_or-take, get_o
 use Rattle.std.proofs.Math.Seq.{take-add}
 use Rattle.std.proofs.lemmas.List.Elements.{All-head, All-tail, All-take, All-drop, recursion_from_All}
 use Rattle.object_heap.specs.Header.{object_header}
+use Rattle.object_heap.specs.Layout.{Layout, kind_in, references_in, size_in, reference_in}
 use Rattle.object_heap.specs.HeapImage.{HeapImage, IsValid, HasSoundHeader, heap_words, word_at, size_at, references_at, reference_at, end_of, is_null_or_live}
 use Rattle.heap_text.specs.Text.{reference_text, number_text, references_text, numbers_text, object_text, are_equal, dead_words_text, dead_text, lines_from}
 use Rattle.heap_text.specs.TextLines.{ended_lines}
@@ -189,7 +190,7 @@ module _ (image : HeapImage) (valid : IsValid image) where
         let inside : f < references_at image a = omega (arith, low, refs_count) in
         let is : get_or refs_of f d ≡ word_at image (a + 1 + f) =
         get_or-take (references_at image a) (drop (a + 1) image.words) f d inside ∙ (get_or-drop (a + 1) image.words f d ∙ get_or_default image.words (a + 1 + f) d 0 (omega (arith, inside, sound.references, sound.inside))) in
-        subst (λ (w : ℕ). w ≤ heap_words image) (sym is) (reference_low image valid (word_at image (a + 1 + f)) (points f inside)))
+        subst (λ (w : ℕ). w ≤ heap_words image) (sym is) (reference_low image valid (word_at image (a + 1 + f)) (subst (λ (v : ℕ). is_null_or_live image v ≡ true) (ap (λ (y : Layout). reference_in y (word_at image (a + 1 + f))) valid.own) (points f inside))))
 
     object_words : take (a + size_at image a) image.words ≡ take a image.words ++ (word_at image a ∷ (refs_of ++ others_of))
     object_words =
@@ -205,7 +206,11 @@ module _ (image : HeapImage) (valid : IsValid image) where
         ∙ ap (λ (t : List ℕ). take a image.words ++ (word_at image a ∷ t)) fields))
 
     header_is : word_at image a ≡ object_header (size_at image a) (references_at image a)
-    header_is = omega (arith, sound.object, sound.references, sound.inside, few_words)
+    header_is =
+        let kind = sym (ap (λ (y : Layout). kind_in y (word_at image a)) valid.own) ∙ sound.object in
+        let references = ap (λ (y : Layout). references_in y (word_at image a)) valid.own in
+        let size = ap (λ (y : Layout). size_in y (word_at image a)) valid.own in
+        omega (arith, kind, references, size, sound.references, sound.inside, few_words)
 
     pub object_text_is : (X : List ℕ) → object_text image a ++ X ≡ object_line a refs_of others_of ++ (10 ∷ X)
     object_text_is X =
@@ -258,8 +263,8 @@ module _ (image : HeapImage) (valid : IsValid image) where
         refs_fit = refs_low here sound points;
         others_fit = fits_between (here + 1 + references_at image here) (size_at image here - 1 - references_at image here);
         inside = omega (arith, size, sound.inside);
-        size_fits = omega (arith, size);
-        references_fit = omega (arith, refs_count here sound points);
+        size_fits = omega (arith, size, ap (λ (y : Layout). size_in y (word_at image here)) valid.own);
+        references_fit = omega (arith, refs_count here sound points, ap (λ (y : Layout). references_in y (word_at image here)) valid.own);
         end = ap (λ (k : ℕ). here + k) (sym size);
         words = ap (λ (k : ℕ). take (here + k) image.words) size
             ∙ (object_words here sound points

@@ -9,7 +9,8 @@ use Rattle.object_heap.specs.Header.{size_of, references_of, kind_of}
 use Rattle.object_heap.specs.Version.{has_roots, number_of}
 use Rattle.object_heap.specs.declared.version.Version.{Version}
 use Rattle.object_heap.specs.declared.version.Version.TheVariants.{One, Two, Three}
-use Rattle.object_heap.specs.HeapImage.{HeapImage, IsValid, AreRoots, roots_or, HasSoundHeader, heap_words, word_at, size_at, references_at, end_of, version_of}
+use Rattle.object_heap.specs.Layout.{Layout, kind_in, references_in, size_in}
+use Rattle.object_heap.specs.HeapImage.{HeapImage, IsValid, AreRoots, roots_or, HasSoundHeader, heap_words, word_at, kind_at, size_at, references_at, end_of, version_of}
 use Rattle.heap_text.specs.Text.{addresses_between, reference_text, number_text, number_line, roots_text, roots_line, references_text, numbers_text, object_text, are_equal, dead_words_text, dead_text, lines_from, text_of}
 use Rattle.heap_text.specs.Parsing.{LiesAhead}
 use Rattle.heap_text.proofs.Lemmas.WordTexts.{some_reference, EndsToken, AreAlike, decimal_unique, decimal_is_word, reference_word, reference_is, reference_is_word, reference_injective, run_unique, list_unique}
@@ -186,6 +187,14 @@ fields_unique A B va vb a (suc r) (suc q) s X Y e =
 pub header_unique : (h k : ℕ) → kind_of h ≡ 1 → kind_of k ≡ 1 → references_of h ≡ references_of k → size_of h ≡ size_of k → h ≡ k
 header_unique h k p q r s = omega arith
 
+-- what the header of an object says
+own_header : (image : HeapImage) → IsValid image → (a : ℕ) → (kind_of (word_at image a) ≡ kind_at image a) × (references_of (word_at image a) ≡ references_at image a) × (size_of (word_at image a) ≡ size_at image a)
+own_header image valid a = (
+  sym (ap (λ (y : Layout). kind_in y (word_at image a)) valid.own),
+  sym (ap (λ (y : Layout). references_in y (word_at image a)) valid.own),
+  sym (ap (λ (y : Layout). size_in y (word_at image a)) valid.own),
+)
+
 -- two objects at the same address
 object_unique : (A B : HeapImage) → IsValid A → IsValid B → (a : ℕ) → HasSoundHeader A a → HasSoundHeader B a → (X Y : List ℕ) → object_text A a ++ X ≡ object_text B a ++ Y
     → (end_of A a ≡ end_of B a) × (X ≡ Y) × Agree A B a (end_of A a)
@@ -204,7 +213,9 @@ object_unique A B va vb a sa sb X Y e =
     let sizes = decimal_unique n m FA FB few_n few_m (fields_end A a (references_at A a) n X) (fields_end B a (references_at B a) m Y) (ap (drop 8) kinds.1) in
     let size : n ≡ m = sizes.0 in
     let all = fields_unique A B va vb a (references_at A a) (references_at B a) n X Y (sizes.1 ∙ ap (λ (k : ℕ). fields B a (references_at B a) k Y) (sym size)) in
-    let header : word_at A a ≡ word_at B a = header_unique (word_at A a) (word_at B a) sa.object sb.object all.0 size in (
+    let one = own_header A va a in
+    let two = own_header B vb a in
+    let header : word_at A a ≡ word_at B a = header_unique (word_at A a) (word_at B a) (one.0 ∙ sa.object) (two.0 ∙ sb.object) (one.1 ∙ all.0 ∙ sym two.1) (one.2 ∙ size ∙ sym two.2) in (
       ap (λ (k : ℕ). a + k) size,
       all.1,
       λ q low high. elim (cases_lt a q) [
@@ -429,12 +440,12 @@ numbers_apart Three One e = absurd (omega (arith, e))
 numbers_apart Three Two e = absurd (omega (arith, e))
 numbers_apart Three Three e = refl
 
-image_same : (A B : HeapImage) → A.version ≡ B.version → A.region_log ≡ B.region_log → A.allowance ≡ B.allowance → A.words ≡ B.words → A.live ≡ B.live → A.roots ≡ B.roots → A ≡ B
-image_same A B u a b c d e = go A.version B.version A.region_log B.region_log A.allowance B.allowance A.words B.words A.live B.live A.roots B.roots u a b c d e
+image_same : (A B : HeapImage) → A.layout ≡ B.layout → A.version ≡ B.version → A.region_log ≡ B.region_log → A.allowance ≡ B.allowance → A.words ≡ B.words → A.live ≡ B.live → A.roots ≡ B.roots → A ≡ B
+image_same A B y u a b c d e = go A.layout B.layout A.version B.version A.region_log B.region_log A.allowance B.allowance A.words B.words A.live B.live A.roots B.roots y u a b c d e
   where
-    go : (t t' : Version) (k l m n : ℕ) (v w x y : List ℕ) (r s : Option (List ℕ)) → t ≡ t' → k ≡ l → m ≡ n → v ≡ w → x ≡ y → r ≡ s
-        → ◌≡◌ {A = HeapImage} (record { version = t; region_log = k; allowance = m; words = v; live = x; roots = r }) (record { version = t'; region_log = l; allowance = n; words = w; live = y; roots = s })
-    go t t' k l m n v w x y r s u a b c d e = cc
+    go : (f g : Layout) (t t' : Version) (k l m n : ℕ) (v w x y : List ℕ) (r s : Option (List ℕ)) → f ≡ g → t ≡ t' → k ≡ l → m ≡ n → v ≡ w → x ≡ y → r ≡ s
+        → ◌≡◌ {A = HeapImage} (record { version = t; layout = f; region_log = k; allowance = m; words = v; live = x; roots = r }) (record { version = t'; layout = g; region_log = l; allowance = n; words = w; live = y; roots = s })
+    go f g t t' k l m n v w x y r s z u a b c d e = cc
 
 -- two valid images with one text are equal
 pub one_image : (A B : HeapImage) → IsValid A → IsValid B → text_of A ≡ text_of B → A ≡ B
@@ -459,4 +470,4 @@ one_image A B va vb e =
     let roots = roots_unique A.roots B.roots (roots_fit A va) (roots_fit B vb) rooted (lines_from A 0 A.live) (lines_from B 0 B.live) allowance.1 in
     let all = lines_unique A B va vb len.0 A.live B.live 0 (ahead_of A va) (ahead_of B vb) roots.1 in
     let words : A.words ≡ B.words = ext_get_or 0 A.words B.words len.0 (λ i l. all.1 i (omega arith) l) in
-    image_same A B same log.0 allowance.0 words all.0 roots.0
+    image_same A B (va.own ∙ sym vb.own) same log.0 allowance.0 words all.0 roots.0

@@ -13,7 +13,8 @@ use Rattle.object_heap.specs.HeapImage.{HeapImage, IsValid, heap_words, size_at,
 use Rattle.object_heap.specs.Bits.{NoneFrom, IsFirstFrom}
 use Rattle.summary.specs.NewAddresses.{prefix_end, new_address, new_top}
 use Rattle.summary.specs.WordMoves.{origin, slid}
-use Rattle.summary.specs.Compaction.{is_reference_of, is_deferred, redirected, moved_word}
+use Rattle.object_heap.specs.Layout.{reference_in}
+use Rattle.summary.specs.Compaction.{is_reference_of, is_deferred, redirected_word, moved_word}
 use Rattle.summary.specs.Updates.{is_late_reference}
 use Rattle.summary.specs.PlanLaws.{PlanLaws}
 use Rattle.history.specs.WordMachine.{is_redirected}
@@ -40,7 +41,7 @@ or_nothing false = refl
 
 module _ (image : HeapImage) (valid : IsValid image) where
   -- the references of a live object are sound
-  pub reference_sound : (a q : ℕ) → Contains image.live a → is_reference_of image a q ≡ true → is_null_or_live image (word_at image q) ≡ true
+  pub reference_sound : (a q : ℕ) → Contains image.live a → is_reference_of image a q ≡ true → is_null_or_live image (reference_in image.layout (word_at image q)) ≡ true
   reference_sound a q object h =
       let at : get_or image.live object.0 0 ≡ a = get_or_default image.live object.0 0 a object.1 ∙ object.2 in
       let both = and_parts (nat_lt a q) (nat_le q (a + references_at image a)) h in
@@ -49,9 +50,9 @@ module _ (image : HeapImage) (valid : IsValid image) where
       let f : ℕ = q - a - 1 in
       let few : f < references_at image a = omega arith in
       let is : a + 1 + f ≡ q = omega arith in
-      let all : (g : ℕ) → g < references_at image a → is_null_or_live image (word_at image (a + 1 + g)) ≡ true =
-      subst (λ (n : ℕ). (g : ℕ) → g < references_at image n → is_null_or_live image (word_at image (n + 1 + g)) ≡ true) at (valid.live_list.references object.0 0 object.1) in
-      ap (λ (n : ℕ). is_null_or_live image (word_at image n)) (sym is) ∙ all f few
+      let all : (g : ℕ) → g < references_at image a → is_null_or_live image (reference_in image.layout (word_at image (a + 1 + g))) ≡ true =
+      subst (λ (n : ℕ). (g : ℕ) → g < references_at image n → is_null_or_live image (reference_in image.layout (word_at image (n + 1 + g))) ≡ true) at (valid.live_list.references object.0 0 object.1) in
+      ap (λ (n : ℕ). is_null_or_live image (reference_in image.layout (word_at image n))) (sym is) ∙ all f few
 
   pub flags_first : (test : ℕ → ℕ → Bool) (flags : List Bool) → length flags ≡ heap_words image → ((q : ℕ) → q < heap_words image → slice_index_or flags q false ≡ false) → AreFlagsOf image test 0 flags
   flags_first test flags all none = record { all = all; each = none }
@@ -86,7 +87,7 @@ module _ (image : HeapImage) (valid : IsValid image) where
       }
 
   -- a word that is redirected as it is moved is a sound reference
-  pub redirected_sound : (q : ℕ) → is_redirected image q ≡ true → is_null_or_live image (word_at image q) ≡ true
+  pub redirected_sound : (q : ℕ) → is_redirected image q ≡ true → is_null_or_live image (reference_in image.layout (word_at image q)) ≡ true
   redirected_sound q h =
       let at = Any-from_list_any (λ a. is_reference_of image a q && not (is_deferred image a)) image.live h in
       let object : Contains image.live at.1 = (at.0, at.2, get_or_default image.live at.0 at.1 at.1 at.2 ∙ at.3) in
@@ -165,7 +166,7 @@ module _ (law : PlanLaws) (image : HeapImage) (valid : IsValid image) where
       (lower, omega arith, header, few, inside)
 
   -- and so is one that is redirected at the end
-  pub late_sound : (p : ℕ) → is_late_reference image p ≡ true → is_null_or_live image (moved_word image p) ≡ true
+  pub late_sound : (p : ℕ) → is_late_reference image p ≡ true → is_null_or_live image (reference_in image.layout (moved_word image p)) ≡ true
   late_sound p h =
       let at = Any-from_list_any (λ a. is_deferred image a && (nat_lt (new_address image a) p && nat_le p (new_address image a + references_at image a))) image.live h in
       let a : ℕ = get_or image.live at.0 0 in
@@ -181,8 +182,8 @@ module _ (law : PlanLaws) (image : HeapImage) (valid : IsValid image) where
       let place : new_address image a + (1 + f) ≡ p = omega arith in
       let word : moved_word image p ≡ word_at image (a + 1 + f) =
       ap (moved_word image) (sym place) ∙ (law.moved-reference image valid.live_list at.0 f at.2 few
-      ∙ (cond-true (is_deferred image a) (word_at image (a + (1 + f))) (redirected image (word_at image (a + (1 + f)))) both.0 ∙ ap (word_at image) (omega arith))) in
-      ap (is_null_or_live image) word ∙ valid.live_list.references at.0 0 at.2 f few
+      ∙ (cond-true (is_deferred image a) (word_at image (a + (1 + f))) (redirected_word image (word_at image (a + (1 + f)))) both.0 ∙ ap (word_at image) (omega arith))) in
+      ap (λ w. is_null_or_live image (reference_in image.layout w)) word ∙ valid.live_list.references at.0 0 at.2 f few
 
   -- the origin of an address: a live word's old address
   pub origin_inside : (p x : ℕ) → origin image p ≡ Some x → x < heap_words image

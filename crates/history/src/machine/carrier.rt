@@ -18,7 +18,7 @@ use raw_region::Region;
 use std::alloc::{AllocError, Global};
 use summary::Plan;
 use summary::laws::plan_laws;
-use summary::laws::plans::planned_image_is_valid;
+use summary::laws::plans::{planned_image_is_own, planned_image_is_valid};
 
 /// For each new address, the word that goes there, and when it is redirected.
 pub(crate) struct Carrier<'a> {
@@ -57,6 +57,7 @@ impl<'a> Carrier<'a> {
         ensures plan { IfOk result (λ carrier. carrier.plan.now ≡ image.now) }
     {
         planned_image_is_valid(plan);
+        planned_image_is_own(plan);
         let origins = origins_of(alloc, plan, marks)?;
         let early = early_references(alloc, image, plan, marks)?;
         let late = late_references(alloc, image, plan, marks)?;

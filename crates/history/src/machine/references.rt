@@ -12,6 +12,7 @@ use heap_image::{Image, header};
 use mark_bitmap::Marks;
 use std::alloc::{AllocError, Global};
 use summary::Plan;
+use summary::laws::plans::{image_is_own, planned_image_is_own};
 
 /// For each old address, whether its word is a reference of an object that isn't deferred.
 pub(crate) fn early_references(
@@ -24,6 +25,7 @@ pub(crate) fn early_references(
     requires marks { marks.now ≡ image.now }
     ensures { IfOk result (λ flags. AreFlags image.now (is_redirected image.now) flags.items) }
 {
+    image_is_own(image);
     let mut flags = vec![in alloc; false; image.len() as usize]?;
     for a in image.live() {
         let header = image.word(*a);
@@ -46,6 +48,7 @@ pub(crate) fn late_references(
     ensures { IfOk result (λ flags. AreFlags image.now (is_late_reference image.now) flags.items) }
 {
     new_words_fit();
+    image_is_own(image);
     let mut flags = vec![in alloc; false; image.len() as usize]?;
     for a in image.live() {
         let header = image.word(*a);
@@ -65,6 +68,7 @@ fn is_deferred(plan: &Plan, marks: &Marks, a: u64, header: u64) -> bool
     ensures { result ≡ is_deferred plan.now a }
 {
     new_words_fit();
+    planned_image_is_own(plan);
     let size = plan.region_words();
     let begin = plan.new_address(marks, a);
     let last = begin + u64::from(header::size(header)) - 1;

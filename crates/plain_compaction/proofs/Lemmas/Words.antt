@@ -5,7 +5,7 @@ use Rattle.std.specs.Prelude.{filter, fold}
 use Rattle.std.specs.List.{list_any}
 use Rattle.object_heap.specs.HeapImage.{HeapImage, HasLiveList, heap_words}
 use Rattle.summary.specs.NewAddresses.{next_after, next_at, prefix_end, new_top}
-use Rattle.summary.specs.Compaction.{carried, redirected, is_reference_of}
+use Rattle.summary.specs.Compaction.{carried, redirected_word, is_reference_of}
 
 filter_all : (p : ℕ → Bool) (xs : List ℕ) → ((i : ℕ) → i < length xs → p (get_or xs i 0) ≡ true) → filter p xs ≡ xs
 filter_all p [] h = refl
@@ -22,8 +22,8 @@ list_any_and_true p (x ∷ xs) = ap (λ b. b || list_any p xs) (sym (and_true (p
     and_true false = refl
 
 -- a word is redirected if it is a reference of a live object
-pub carried-any : (image : HeapImage) (q : ℕ) → carried image (λ _. true) q ≡ cond (list_any (λ a. is_reference_of image a q) image.live) (redirected image (get_or image.words q 0)) (get_or image.words q 0)
-carried-any image q = ap (λ b. cond b (redirected image (get_or image.words q 0)) (get_or image.words q 0)) (sym (list_any_and_true (λ a. is_reference_of image a q) image.live))
+pub carried-any : (image : HeapImage) (q : ℕ) → carried image (λ _. true) q ≡ cond (list_any (λ a. is_reference_of image a q) image.live) (redirected_word image (get_or image.words q 0)) (get_or image.words q 0)
+carried-any image q = ap (λ b. cond b (redirected_word image (get_or image.words q 0)) (get_or image.words q 0)) (sym (list_any_and_true (λ a. is_reference_of image a q) image.live))
 
 -- once all objects that begin in the heap are placed, all are
 pub next_at-top : (image : HeapImage) → HasLiveList image → next_at image (heap_words image) ≡ new_top image

@@ -55,13 +55,13 @@ module _ (image : HeapImage) where
         let below : i < region_count image = omega (arith, inside, length-map-range_with_len (block_of image) 0 (region_count image)) in
         ap length (get_or-map-range_with_len (block_of image) 0 (region_count image) i i [] below (omega arith)) ∙ long i below)
 
-same_image : (x y : HeapImage) → x.version ≡ y.version → x.region_log ≡ y.region_log → x.allowance ≡ y.allowance → x.words ≡ y.words
+same_image : (x y : HeapImage) → x.layout ≡ y.layout → x.version ≡ y.version → x.region_log ≡ y.region_log → x.allowance ≡ y.allowance → x.words ≡ y.words
     → x.live ≡ y.live → x.roots ≡ y.roots → x ≡ y
-same_image x y v a b c d e = λ i. record { version = v i; region_log = a i; allowance = b i; words = c i; live = d i; roots = e i }
+same_image x y l v a b c d e = λ i. record { version = v i; layout = l i; region_log = a i; allowance = b i; words = c i; live = d i; roots = e i }
 
 -- an image is that of its parts
 pub whole_again : (image : HeapImage) → IsValid image → (version : Version) (log allowance : ℕ) (blocks : List (List ℕ)) (live : List ℕ) (roots : Option (List ℕ))
     → version ≡ image.version → log ≡ image.region_log → allowance ≡ image.allowance → blocks ≡ blocks_of image → live ≡ image.live → roots ≡ image.roots
     → versioned_image_of version log allowance blocks live roots ≡ image
 whole_again image valid version log allowance blocks live roots v l a b e r =
-    same_image (versioned_image_of version log allowance blocks live roots) image v l a (ap concat b ∙ words_joined image valid) e r
+    same_image (versioned_image_of version log allowance blocks live roots) image (sym valid.own) v l a (ap concat b ∙ words_joined image valid) e r

@@ -10,8 +10,9 @@ use Rattle.std.proofs.lemmas.List.Folds.{Any-from_list_any, list_any-from_Any, f
 use Rattle.std.proofs.lemmas.List.FromFn.{take-map-range_with_len, length-map-range_with_len, fill_by_all}
 use Rattle.std.proofs.lemmas.List.Sums.{sum_by-cons}
 use Rattle.std.specs.Prelude.{count_by, map, flat_map, sum, slice_range, not, Option, option_map}
-use Rattle.std.specs.List.{range_with_len}
+use Rattle.std.specs.List.{concat, range_with_len}
 use Rattle.object_heap.specs.declared.version.Version.{Version}
+use Rattle.object_heap.specs.Layout.{Layout, Own}
 use Rattle.object_heap.specs.HeapImage.{HeapImage, HasLiveList, AreBlocks, versioned_image_of, heap_words, region_words, region_count, region_of, start_of, word_at, block_of, size_at, is_word_of, is_live_word, live_words}
 use Rattle.summary.proofs.Lemmas.Spans.{count_by-cons, is_in_parts}
 use Rattle.summary.specs.NewAddresses.{prefix_end, new_address, new_live, new_top}
@@ -271,13 +272,14 @@ module _ (image : HeapImage) where
   pub blocks-AreBlocks : AreBlocks image.region_log blocks
   blocks-AreBlocks = All-map (λ (b : List ℕ). length b ≡ 2 ^ image.region_log) region_block (range_with_len 0 (region_count image)) (λ k d l. length-map-range_with_len (compacted_word image) (start_of image (get_or (range_with_len 0 (region_count image)) k d)) (region_words image))
 
-  pub compact-of_blocks : heap_words image % region_words image ≡ 0 → versioned_image_of image.version image.region_log image.allowance blocks (new_live image) (option_map (map (redirected image)) image.roots) ≡ compact image
-  compact-of_blocks whole = ap (λ (ws : List ℕ). record { version = image.version; region_log = image.region_log; allowance = image.allowance; words = ws; live = new_live image; roots = option_map (map (redirected image)) image.roots }) (concat_is blocks ∙ flat_map-map (λ (b : List ℕ). b) region_block (range_with_len 0 (region_count image)) ∙ sym (compact-joined image whole))
+  pub compact-of_blocks : image.layout ≡ Own → heap_words image % region_words image ≡ 0 → versioned_image_of image.version image.region_log image.allowance blocks (new_live image) (option_map (map (redirected image)) image.roots) ≡ compact image
+  compact-of_blocks own whole = ap (λ (y : Layout). record { version = image.version; layout = y; region_log = image.region_log; allowance = image.allowance; words = concat blocks; live = new_live image; roots = option_map (map (redirected image)) image.roots }) (sym own)
+      ∙ ap (λ (ws : List ℕ). record { version = image.version; layout = image.layout; region_log = image.region_log; allowance = image.allowance; words = ws; live = new_live image; roots = option_map (map (redirected image)) image.roots }) (concat_is blocks ∙ flat_map-map (λ (b : List ℕ). b) region_block (range_with_len 0 (region_count image)) ∙ sym (compact-joined image whole))
 
-  pub parts-of_blocks : (version : Version) (log allowance r : ℕ) (regions : List (List ℕ)) (live : List ℕ) (roots : Option (List ℕ)) → heap_words image % region_words image ≡ 0
+  pub parts-of_blocks : image.layout ≡ Own → (version : Version) (log allowance r : ℕ) (regions : List (List ℕ)) (live : List ℕ) (roots : Option (List ℕ)) → heap_words image % region_words image ≡ 0
       → version ≡ image.version → log ≡ image.region_log → allowance ≡ image.allowance → regions ≡ map region_block (range_with_len 0 r) → r ≡ region_count image → live ≡ new_live image → roots ≡ option_map (map (redirected image)) image.roots
       → AreBlocks log regions × (versioned_image_of version log allowance regions live roots ≡ compact image)
-  parts-of_blocks version log allowance r regions live roots whole v e f g h k m =
+  parts-of_blocks own version log allowance r regions live roots whole v e f g h k m =
       let all : regions ≡ blocks = g ∙ ap (λ n. map region_block (range_with_len 0 n)) h in (
         subst (λ bs. AreBlocks log bs) (sym all) (subst (λ n. AreBlocks n blocks) (sym e) blocks-AreBlocks),
         ap (λ w. versioned_image_of w log allowance regions live roots) v
@@ -286,5 +288,5 @@ module _ (image : HeapImage) where
             ∙ ap (λ bs. versioned_image_of image.version image.region_log image.allowance bs live roots) all
             ∙ ap (λ as'. versioned_image_of image.version image.region_log image.allowance blocks as' roots) k
             ∙ ap (λ o. versioned_image_of image.version image.region_log image.allowance blocks (new_live image) o) m
-            ∙ compact-of_blocks whole,
+            ∙ compact-of_blocks own whole,
       )

@@ -6,13 +6,14 @@ use Rattle.std.proofs.lemmas.List.Folds.{list_any_at, Any-from_list_any}
 use Rattle.std.proofs.lemmas.List.Elements.{All-from_get_or, All-map}
 use Rattle.std.specs.Prelude.{All, map, Option, None, Some, IfSome, option_map}
 use Rattle.std.specs.List.{list_any}
-use Rattle.object_heap.specs.Header.{references_of}
+use Rattle.object_heap.specs.Layout.{references_in}
 use Rattle.object_heap.specs.HeapImage.{HeapImage, AreRoots, IsValid, HasLiveList, heap_words, references_at, reference_at, is_null_or_live, is_unsound, leads_to, refers_to, reachable}
 use Rattle.summary.specs.NewAddresses.{new_address}
 use Rattle.summary.specs.Compaction.{redirected, compact}
+use Rattle.summary.specs.Redirection.{RedirectsReferences}
 use Rattle.summary.proofs.Lemmas.Graph.{reference-object}
 use Rattle.summary.proofs.Lemmas.Origin.{length-compact}
-use Rattle.summary.proofs.Lemmas.Valid.{valid_with, compact-HasLiveList, header_of_moved, new_at, count_same}
+use Rattle.summary.proofs.Lemmas.Valid.{redirecting, valid_with, compact-HasLiveList, header_of_moved, new_at, count_same}
 use Rattle.object_heap.specs.Reachable.{is_listed, IsClosed}
 use Rattle.object_heap.specs.LiveLaws.{LiveLaws}
 
@@ -31,7 +32,7 @@ any_listed p xs a listed passes =
     let e : a ≡ get_or xs at.0 at.1 = eqb-true a at.1 at.4 ∙ sym at.3 in
     list_any_at p xs at.0 at.1 at.2 (subst (λ c. p c ≡ true) e passes)
 
-module _ (law : LiveLaws) (image : HeapImage) (roots : List ℕ) (sound : HasLiveList image) (few : All (λ w. w ≤ heap_words image) roots) (lives : image.live ≡ reachable image roots) where
+module _ (law : LiveLaws) (image : HeapImage) (roots : List ℕ) (sound : HasLiveList image) (lawful : RedirectsReferences image.layout (heap_words image)) (few : All (λ w. w ≤ heap_words image) roots) (lives : image.live ≡ reachable image roots) where
   abbrev after : HeapImage
   after = compact image
 
@@ -39,7 +40,7 @@ module _ (law : LiveLaws) (image : HeapImage) (roots : List ℕ) (sound : HasLiv
   new_roots = map (redirected image) roots
 
   sound' : HasLiveList after
-  sound' = compact-HasLiveList image sound
+  sound' = compact-HasLiveList image sound lawful
 
   live_is : (a : ℕ) → is_listed image.live a ≡ is_listed (reachable image roots) a
   live_is a = ap (λ xs. is_listed xs a) lives
@@ -98,9 +99,9 @@ module _ (law : LiveLaws) (image : HeapImage) (roots : List ℕ) (sound : HasLiv
       let j = place_of image.live b k in
       let leads : reference_at image (get_or image.live i.0 0) f ≡ get_or image.live j.0 0 + 1 = ap (λ c. reference_at image c f) i.2 ∙ field.1.2 ∙ ap (λ c. c + 1) (sym j.2) in
       let inside : f < references_at image (get_or image.live i.0 0) = subst (λ c. f < references_at image c) (sym i.2) field.1.1 in
-      let new : reference_at after (new_address image (get_or image.live i.0 0)) f ≡ new_address image (get_or image.live j.0 0) + 1 = reference-object image sound i.0 j.0 f i.1 j.1 inside leads in
+      let new : reference_at after (new_address image (get_or image.live i.0 0)) f ≡ new_address image (get_or image.live j.0 0) + 1 = reference-object image sound lawful i.0 j.0 f i.1 j.1 inside leads in
       let new' : reference_at after (new_address image a) f ≡ new_address image b + 1 = ap (λ c. reference_at after (new_address image c) f) (sym i.2) ∙ new ∙ ap (λ c. new_address image c + 1) j.2 in
-      let count : f < references_at after (new_address image a) = subst (λ c. f < references_at after (new_address image c)) i.2 (subst (λ w. f < references_of w) (sym (header_of_moved image sound i.0 i.1)) inside) in
+      let count : f < references_at after (new_address image a) = subst (λ c. f < references_at after (new_address image c)) i.2 (subst (λ w. f < references_in image.layout w) (sym (header_of_moved image sound i.0 i.1)) inside) in
       let ok : is_unsound after (new_address image a) ≡ false = law.not_unsound after sound' (new_address image a) (law.live_sound after sound' (new_address image a) (new_listed a h)) in
       law.refers_by after sound' (new_address image a) (new_address image b) f ok count new'
 
@@ -152,14 +153,14 @@ rooted_after law image valid (Some roots) h =
     let same = length-map roots (redirected image) in
     let few = h.few in
     let counted = h.counted in
-    let leads = new_roots_lead law image roots valid.live_list h.inside h.reached in
+    let leads = new_roots_lead law image roots valid.live_list (redirecting valid.lawful) h.inside h.reached in
     record {
       few = omega arith;
       counted = omega arith;
       inside = All-map (λ w. w ≤ heap_words (compact image)) (redirected image) roots (λ k d l.
           let m : k < length (map (redirected image) roots) = omega arith in
-          null_or_live_low law (compact image) (compact-HasLiveList image valid.live_list) (redirected image (get_or roots k d)) (subst (λ w. is_null_or_live (compact image) w ≡ true) (get_or-map (redirected image) roots k d d l) (leads k d m)));
-      reached = compact-reachable law image roots valid.live_list h.inside h.reached;
+          null_or_live_low law (compact image) (compact-HasLiveList image valid.live_list (redirecting valid.lawful)) (redirected image (get_or roots k d)) (subst (λ w. is_null_or_live (compact image) w ≡ true) (get_or-map (redirected image) roots k d d l) (leads k d m)));
+      reached = compact-reachable law image roots valid.live_list (redirecting valid.lawful) h.inside h.reached;
     }
 
 pub compact-IsValid : LiveLaws → (image : HeapImage) → IsValid image → IsValid (compact image)

@@ -4,11 +4,12 @@ use Rattle.std.proofs.lemmas.Bool.{cases_Bool, cases_order, cond-true, cond-fals
 use Rattle.std.proofs.lemmas.List.{get_or_default}
 use Rattle.std.proofs.lemmas.List.Folds.{Any-from_list_any}
 use Rattle.std.specs.List.{list_any}
-use Rattle.object_heap.specs.HeapImage.{HeapImage, HasLiveList, word_at, size_at, references_at, reference_at, is_null_or_live}
+use Rattle.object_heap.specs.HeapImage.{HeapImage, HasLiveList, heap_words, word_at, size_at, references_at, reference_at, is_null_or_live}
 use Rattle.summary.specs.LiveObjects.{object_count, object_at}
 use Rattle.summary.specs.NewAddresses.{new_address, new_end_of, new_top}
 use Rattle.summary.specs.WordMoves.{slid}
-use Rattle.summary.specs.Compaction.{compact, redirected, is_reference_of}
+use Rattle.summary.specs.Compaction.{compact, redirected, is_reference_of, redirected_word}
+use Rattle.summary.specs.Redirection.{RedirectsReferences}
 use Rattle.summary.specs.SameGraph.{IsSameGraph}
 use Rattle.summary.proofs.Lemmas.Objects.{new_ends_before}
 use Rattle.summary.proofs.Lemmas.Runs.{carried-object}
@@ -47,7 +48,7 @@ module _ (image : HeapImage) (sound : HasLiveList image) where
       omega arith
 
   -- two live objects do not go to one address
-  new-different : (i k : ℕ) → i < object_count image → k < object_count image → new_address image (object_at image i) ≡ new_address image (object_at image k) → i ≡ k
+  pub new-different : (i k : ℕ) → i < object_count image → k < object_count image → new_address image (object_at image i) ≡ new_address image (object_at image k) → i ≡ k
   new-different i k l m e = elim (cases_order i k) [
     | inl same ↦ same
     | inr other ↦ elim other [
@@ -91,27 +92,27 @@ module _ (image : HeapImage) (sound : HasLiveList image) where
   abbrev new_reference : ℕ → ℕ → ℕ
   new_reference i f = reference_at after (new_address image (object_at image i)) f
 
-  pub reference-object : (i k f : ℕ) → i < object_count image → k < object_count image → f < references_at image (object_at image i)
+  pub reference-object : RedirectsReferences image.layout (heap_words image) → (i k f : ℕ) → i < object_count image → k < object_count image → f < references_at image (object_at image i)
       → old_reference i f ≡ object_at image k + 1 → new_reference i f ≡ new_address image (object_at image k) + 1
-  reference-object i k f l m n e = reference_of_moved image sound i f l n ∙ redirected-object (old_reference i f) (object_at image k) e
+  reference-object lawful i k f l m n e = reference_of_moved image sound lawful i f l n ∙ redirected-object (old_reference i f) (object_at image k) e
 
-  pub reference-null : (i f : ℕ) → i < object_count image → f < references_at image (object_at image i) → old_reference i f ≡ 0 → new_reference i f ≡ 0
-  reference-null i f l n e = reference_of_moved image sound i f l n ∙ redirected-null (old_reference i f) e
+  pub reference-null : RedirectsReferences image.layout (heap_words image) → (i f : ℕ) → i < object_count image → f < references_at image (object_at image i) → old_reference i f ≡ 0 → new_reference i f ≡ 0
+  reference-null lawful i f l n e = reference_of_moved image sound lawful i f l n ∙ redirected-null (old_reference i f) e
 
-  null-back : (i f : ℕ) → i < object_count image → f < references_at image (object_at image i) → new_reference i f ≡ 0 → old_reference i f ≡ 0
-  null-back i f l n e = elim (leads_to (old_reference i f) (sound.references i 0 l f n)) [
+  null-back : RedirectsReferences image.layout (heap_words image) → (i f : ℕ) → i < object_count image → f < references_at image (object_at image i) → new_reference i f ≡ 0 → old_reference i f ≡ 0
+  null-back lawful i f l n e = elim (leads_to (old_reference i f) (sound.references i 0 l f n)) [
     | inl null ↦ null
     | inr to ↦
-        let goes = reference-object i to.0 f l to.1 n to.2 in
+        let goes = reference-object lawful i to.0 f l to.1 n to.2 in
         let no : ⊥ = omega arith in absurd no
   ]
 
-  object-back : (i k f : ℕ) → i < object_count image → k < object_count image → f < references_at image (object_at image i)
+  object-back : RedirectsReferences image.layout (heap_words image) → (i k f : ℕ) → i < object_count image → k < object_count image → f < references_at image (object_at image i)
       → new_reference i f ≡ new_address image (object_at image k) + 1 → old_reference i f ≡ object_at image k + 1
-  object-back i k f l m n e = elim (leads_to (old_reference i f) (sound.references i 0 l f n)) [
-    | inl null ↦ let z = reference-null i f l n null in let no : ⊥ = omega arith in absurd no
+  object-back lawful i k f l m n e = elim (leads_to (old_reference i f) (sound.references i 0 l f n)) [
+    | inl null ↦ let z = reference-null lawful i f l n null in let no : ⊥ = omega arith in absurd no
     | inr to ↦
-        let goes = reference-object i to.0 f l to.1 n to.2 in
+        let goes = reference-object lawful i to.0 f l to.1 n to.2 in
         let same : to.0 ≡ k = new-different to.0 k to.1 m (omega arith) in
         to.2 ∙ ap (λ j. object_at image j + 1) same
   ]
@@ -123,13 +124,13 @@ module _ (image : HeapImage) (sound : HasLiveList image) where
       let q : ℕ = a + j in
       word_of image sound i j l n
       ∙ carried-object image sound (λ _. true) i q l (omega arith) (omega arith)
-      ∙ cond-false (is_reference_of image a q && true) (redirected image (word_at image q)) (word_at image q) (and_left (is_reference_of image a q) true (and_right (ltb a q) (leb q (a + references_at image a)) (lt-leb q (a + references_at image a) (omega arith))))
+      ∙ cond-false (is_reference_of image a q && true) (redirected_word image (word_at image q)) (word_at image q) (and_left (is_reference_of image a q) true (and_right (ltb a q) (leb q (a + references_at image a)) (lt-leb q (a + references_at image a) (omega arith))))
 
-  pub compact-IsSameGraph : IsSameGraph image (compact image)
-  compact-IsSameGraph = record {
+  pub compact-IsSameGraph : RedirectsReferences image.layout (heap_words image) → IsSameGraph image (compact image)
+  compact-IsSameGraph lawful = record {
     objects = count_same image sound;
     headers = λ i l. rw (new_at image sound i 0 l) (header_of_moved image sound i l);
-    null = λ i f l n. rw (new_at image sound i 0 l) (reference-null i f l n, null-back i f l n);
-    references = λ i f k l n m. rw (new_at image sound i 0 l, new_at image sound k 0 m) (reference-object i k f l m n, object-back i k f l m n);
+    null = λ i f l n. rw (new_at image sound i 0 l) (reference-null lawful i f l n, null-back lawful i f l n);
+    references = λ i f k l n m. rw (new_at image sound i 0 l, new_at image sound k 0 m) (reference-object lawful i k f l m n, object-back lawful i k f l m n);
     others = λ i j l m n. rw (new_at image sound i 0 l) (other_word i j l m n);
   }

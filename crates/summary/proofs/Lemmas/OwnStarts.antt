@@ -10,7 +10,7 @@ use Rattle.object_heap.specs.HeapImage.{HeapImage, HasLiveList, heap_words, regi
 use Rattle.summary.proofs.Lemmas.Spans.{is_in_parts, is_in_inside}
 use Rattle.mark_bitmap.specs.Marks.{is_begin}
 use Rattle.summary.specs.RegionData.{partial_words, own_words}
-use Rattle.summary.specs.Layout.{IsOwnStart}
+use Rattle.summary.specs.RegionPlaces.{IsOwnStart}
 use Rattle.summary.proofs.Lemmas.Destinations.{count_by-none, count_by-same, count_by-parts}
 use Rattle.summary.proofs.Lemmas.Readers.{same_Bool}
 use Rattle.summary.proofs.Lemmas.Regions.{begun_left, data-live_words}

@@ -7,7 +7,7 @@ use Rattle.object_heap.specs.HeapImage.{HeapImage, HasLiveList, heap_words, word
 use Rattle.summary.specs.NewAddresses.{prefix_end, new_address, new_top}
 use Rattle.summary.specs.WordMoves.{slid, origin}
 use Rattle.summary.specs.RegionData.{destination, data_words}
-use Rattle.summary.specs.Compaction.{compact, compacted_word, moved, moved_word, written, carried, redirected, is_reference_of, object_image}
+use Rattle.summary.specs.Compaction.{compact, compacted_word, moved, moved_word, written, carried, is_reference_of, object_image, redirected_word}
 use Rattle.object_heap.specs.Header.{filler_header}
 use Rattle.summary.specs.Fillers.{IsDeadRun, filler_word}
 use Rattle.summary.proofs.Lemmas.Addresses.{prefix_end-le}
@@ -95,8 +95,8 @@ module _ (image : HeapImage) (sound : HasLiveList image) where
       omega arith
 
   pub carried-object : (test : ℕ → Bool) (i q : ℕ) → i < length image.live → place i ≤ q → q < end_of image (place i)
-      → carried image test q ≡ cond (is_reference_of image (place i) q && test (place i)) (redirected image (word_at image q)) (word_at image q)
-  carried-object test i q l from below = ap (λ b. cond b (redirected image (word_at image q)) (word_at image q)) (reference-owner image sound test i q l from below)
+      → carried image test q ≡ cond (is_reference_of image (place i) q && test (place i)) (redirected_word image (word_at image q)) (word_at image q)
+  carried-object test i q l from below = ap (λ b. cond b (redirected_word image (word_at image q)) (word_at image q)) (reference-owner image sound test i q l from below)
 
   pub compacted-carried : (i j : ℕ) → i < length image.live → j < size_at image (place i) → compacted_word image (new_address image (place i) + j) ≡ carried image (λ _. true) (place i + j)
   compacted-carried i j l k =
@@ -108,7 +108,7 @@ module _ (image : HeapImage) (sound : HasLiveList image) where
       ∙ ap (λ o. written image (λ _. true) o p) w.2
 
   abbrev redirected_of : ℕ → ℕ → ℕ
-  redirected_of a q = cond (is_reference_of image a q) (redirected image (word_at image q)) (word_at image q)
+  redirected_of a q = cond (is_reference_of image a q) (redirected_word image (word_at image q)) (word_at image q)
 
   and_same : (b c : Bool) → c ≡ true → (b && c) ≡ b
   and_same true c h = h
@@ -133,7 +133,7 @@ module _ (image : HeapImage) (sound : HasLiveList image) where
       let q : ℕ = place i + j in
       compacted-carried i j l k
       ∙ carried-object (λ _. true) i q l (omega arith) (omega arith)
-      ∙ ap (λ b. cond b (redirected image (word_at image q)) (word_at image q)) (and_same (is_reference_of image (place i) q) true refl))
+      ∙ ap (λ b. cond b (redirected_word image (word_at image q)) (word_at image q)) (and_same (is_reference_of image (place i) q) true refl))
 
   pub compacted-top : (p : ℕ) → new_top image ≤ p → compacted_word image p ≡ 0
   compacted-top p l = cond-false (ltb p (new_top image)) (written image (λ _. true) (origin image p) p) 0 (le-ltb p (new_top image) l)

@@ -14,7 +14,7 @@ use Rattle.summary.specs.declared.region_data.RegionData.{RegionData}
 use Rattle.summary.proofs.Lemmas.Destinations.{destination-live_words}
 use Rattle.summary.proofs.Lemmas.Blocks.{region_in_heap}
 use Rattle.summary.proofs.Lemmas.Filters.{filter-skip, filter-none, filter-same}
-use Rattle.summary.proofs.Lemmas.Layouts.{destination-low, destination-high}
+use Rattle.summary.proofs.Lemmas.RegionPlaces.{destination-low, destination-high}
 use Rattle.summary.proofs.Lemmas.Readers.{same_Bool, reads-below, reads-targets, reads-destination, prefix-reads, next-reads, reads-filled, reads-in_range, source-Some}
 use Rattle.summary.proofs.Lemmas.Regions.{prefix_region, region_apart, region_at}
 use Rattle.summary.proofs.Lemmas.Steps.{source-is}

@@ -11,11 +11,11 @@ use Rattle.std.specs.Prelude.{map, Option, Some, None}
 use Rattle.object_heap.specs.HeapImage.{HeapImage, IsValid, region_words, region_count, start_of, heap_words}
 use Rattle.summary.specs.NewAddresses.{prefix_end}
 use Rattle.summary.specs.RegionData.{data_words, destination, source, region_data}
-use Rattle.summary.specs.Layout.{placed_region}
+use Rattle.summary.specs.RegionPlaces.{placed_region}
 use Rattle.summary.specs.Sources.{if_below, region_so_far, StartsOnly}
 use Rattle.summary.specs.declared.region_data.RegionData.{RegionData}
 use Rattle.summary.proofs.Lemmas.Addresses.{prefix_end-le}
-use Rattle.summary.proofs.Lemmas.Layouts.{data-le, destination-low, destination-fits, destination-high}
+use Rattle.summary.proofs.Lemmas.RegionPlaces.{data-le, destination-low, destination-fits, destination-high}
 use Rattle.summary.proofs.Lemmas.Readers.{data-in_range, region_below}
 use Rattle.summary.proofs.Lemmas.Regions.{region_some, region_is, region_apart}
 use Rattle.summary.proofs.Lemmas.Steps.{source-at, source-is}

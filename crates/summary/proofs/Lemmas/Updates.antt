@@ -6,11 +6,11 @@ use Rattle.std.proofs.lemmas.List.Folds.{list_any_at, Any-from_list_any}
 use Rattle.std.specs.Prelude.{map, not, Some, None, Option}
 use Rattle.std.specs.List.{range_with_len, list_any}
 use Rattle.object_heap.specs.HeapImage.{HeapImage, HasLiveList, heap_words, word_at, size_at, references_at, end_of, is_live_word, region_of}
-use Rattle.object_heap.specs.Header.{references_of}
+use Rattle.object_heap.specs.Layout.{references_in}
 use Rattle.summary.specs.NewAddresses.{new_address, new_top}
 use Rattle.summary.specs.WordMoves.{slid, origin}
 use Rattle.summary.specs.Fillers.{filler_word}
-use Rattle.summary.specs.Compaction.{compact, compacted_word, moved_word, written, carried, redirected, is_reference_of, is_deferred}
+use Rattle.summary.specs.Compaction.{compact, compacted_word, moved_word, written, carried, redirected, is_reference_of, is_deferred, redirected_word}
 use Rattle.summary.specs.Updates.{is_late_reference, updated_word}
 use Rattle.summary.proofs.Lemmas.Addresses.{new_address-slid}
 use Rattle.summary.proofs.Lemmas.Origin.{slid-increasing, origin-slid, origin-Some}
@@ -126,7 +126,7 @@ module _ (image : HeapImage) (sound : HasLiveList image) where
   redirect_again false f h w = refl
 
   updated-live : (q : ℕ) → is_live_word image q ≡ true
-      → cond (is_late_reference image (slid image q)) (redirected image (carried image early q)) (carried image early q) ≡ carried image (λ _. true) q
+      → cond (is_late_reference image (slid image q)) (redirected_word image (carried image early q)) (carried image early q) ≡ carried image (λ _. true) q
   updated-live q live =
       let o = owner image sound q live in
       let i : ℕ = o.0 in
@@ -134,7 +134,7 @@ module _ (image : HeapImage) (sound : HasLiveList image) where
       let from : place i ≤ q = o.2 in
       let below : q < end_of image (place i) = o.3 in
       rw (late-owner i q l from below) (rw (reference-owner early i q l from below) (rw (reference-owner (λ _. true) i q l from below)
-      (redirect_again (is_reference_of image (place i) q) (is_deferred image (place i)) (redirected image) (word_at image q))))
+      (redirect_again (is_reference_of image (place i) q) (is_deferred image (place i)) (redirected_word image) (word_at image q))))
 
   late-None : (p : ℕ) → origin image p ≡ None → is_late_reference image p ≡ false
   late-None p e = false_from_ne_true (is_late_reference image p) (λ h.
@@ -153,21 +153,21 @@ module _ (image : HeapImage) (sound : HasLiveList image) where
 
   -- below the new top, the update of the deferred objects makes the compacted word
   updated-below : (p : ℕ) → (o : Option ℕ) → origin image p ≡ o
-      → cond (is_late_reference image p) (redirected image (written image early o p)) (written image early o p) ≡ written image (λ _. true) o p
-  updated-below p None e = cond-false (is_late_reference image p) (redirected image (filler_word image p)) (filler_word image p) (late-None p e)
+      → cond (is_late_reference image p) (redirected_word image (written image early o p)) (written image early o p) ≡ written image (λ _. true) o p
+  updated-below p None e = cond-false (is_late_reference image p) (redirected_word image (filler_word image p)) (filler_word image p) (late-None p e)
   updated-below p (Some q) e =
       let h = origin-Some image sound p q e in
-      ap (λ n. cond (is_late_reference image n) (redirected image (carried image early q)) (carried image early q)) (sym h.1) ∙ updated-live q h.0
+      ap (λ n. cond (is_late_reference image n) (redirected_word image (carried image early q)) (carried image early q)) (sym h.1) ∙ updated-live q h.0
 
   pub updated-compacted : (p : ℕ) → updated_word image p ≡ compacted_word image p
   updated-compacted p = elim (cases_lt p (new_top image)) [
     | inr above ↦
-        cond-false (ltb p (new_top image)) (cond (is_late_reference image p) (redirected image (moved_word image p)) (moved_word image p)) 0 (le-ltb p (new_top image) above)
+        cond-false (ltb p (new_top image)) (cond (is_late_reference image p) (redirected_word image (moved_word image p)) (moved_word image p)) 0 (le-ltb p (new_top image) above)
         ∙ sym (cond-false (ltb p (new_top image)) (written image (λ _. true) (origin image p) p) 0 (le-ltb p (new_top image) above))
     | inl below ↦
         let is : moved_word image p ≡ written image early (origin image p) p = cond-true (ltb p (new_top image)) (written image early (origin image p) p) (word_at image p) (lt-ltb p (new_top image) below) in
-        cond-true (ltb p (new_top image)) (cond (is_late_reference image p) (redirected image (moved_word image p)) (moved_word image p)) 0 (lt-ltb p (new_top image) below)
-        ∙ ap (λ w. cond (is_late_reference image p) (redirected image w) w) is
+        cond-true (ltb p (new_top image)) (cond (is_late_reference image p) (redirected_word image (moved_word image p)) (moved_word image p)) 0 (lt-ltb p (new_top image) below)
+        ∙ ap (λ w. cond (is_late_reference image p) (redirected_word image w) w) is
         ∙ updated-below p (origin image p) refl
         ∙ sym (cond-true (ltb p (new_top image)) (written image (λ _. true) (origin image p) p) 0 (lt-ltb p (new_top image) below))
   ]
@@ -197,26 +197,26 @@ module _ (image : HeapImage) (sound : HasLiveList image) where
       ap (moved_word image) (sym (add-zero (new_address image a)))
       ∙ moved-carried i 0 l some
       ∙ ap (carried image early) (add-zero a)
-      ∙ cond-false (list_any (λ c. is_reference_of image c a && early c) image.live) (redirected image (word_at image a)) (word_at image a) (reference-owner early i a l (omega arith) (omega arith) ∙ none)
+      ∙ cond-false (list_any (λ c. is_reference_of image c a && early c) image.live) (redirected_word image (word_at image a)) (word_at image a) (reference-owner early i a l (omega arith) (omega arith) ∙ none)
 
   -- the references of an object: the old ones if it is deferred, otherwise redirected
   pub moved-reference : (i f : ℕ) → i < length image.live → f < references_at image (place i)
-      → moved_word image (new_address image (place i) + (1 + f)) ≡ cond (is_deferred image (place i)) (word_at image (place i + (1 + f))) (redirected image (word_at image (place i + (1 + f))))
+      → moved_word image (new_address image (place i) + (1 + f)) ≡ cond (is_deferred image (place i)) (word_at image (place i + (1 + f))) (redirected_word image (word_at image (place i + (1 + f))))
   moved-reference i f l k =
       let few = (sound.sound i 0 l).references in
       let a : ℕ = place i in
       let q : ℕ = a + (1 + f) in
       let is : is_reference_of image a q ≡ true = and_from (ltb a q) (leb q (a + references_at image a)) (lt-ltb a q (omega arith)) (le-leb q (a + references_at image a) (omega arith)) in
       moved-carried i (1 + f) l (omega arith)
-      ∙ ap (λ b. cond b (redirected image (word_at image q)) (word_at image q)) (reference-owner early i q l (omega arith) (omega arith) ∙ ap (λ b. b && early a) is)
-      ∙ turned (is_deferred image a) (word_at image q) (redirected image (word_at image q))
+      ∙ ap (λ b. cond b (redirected_word image (word_at image q)) (word_at image q)) (reference-owner early i q l (omega arith) (omega arith) ∙ ap (λ b. b && early a) is)
+      ∙ turned (is_deferred image a) (word_at image q) (redirected_word image (word_at image q))
     where
       turned : (b : Bool) (x y : ℕ) → cond (true && not b) y x ≡ cond b x y
       turned true x y = refl
       turned false x y = refl
 
   -- The late references are those of the regions' deferred objects, with as many references as the moved header has.
-  pub late-told : (p : ℕ) → is_late_reference image p ≡ true → (d : ℕ) × (x : ℕ) × (deferred image d ≡ Some x) × (x < p) × (p ≤ x + references_of (moved_word image x))
+  pub late-told : (p : ℕ) → is_late_reference image p ≡ true → (d : ℕ) × (x : ℕ) × (deferred image d ≡ Some x) × (x < p) × (p ≤ x + references_in image.layout (moved_word image x))
   late-told p h =
       let at = Any-from_list_any (begins_late p) image.live h in
       let k : ℕ = at.0 in
@@ -229,16 +229,16 @@ module _ (image : HeapImage) (sound : HasLiveList image) where
       let both = and_parts (is_deferred image a) (ltb to p && leb p (to + n)) hit in
       let parts = and_parts (ltb to p) (leb p (to + n)) both.1 in
       let high : p ≤ to + n = leb-true p (to + n) parts.1 in
-      let same : references_of (moved_word image to) ≡ n = ap references_of (moved-header k m) in
+      let same : references_in image.layout (moved_word image to) ≡ n = ap (references_in image.layout) (moved-header k m) in
       (region_of image to, to, deferred-told image sound k m both.0, ltb-true to p parts.0, omega arith)
 
-  pub told-late : (p d x : ℕ) → deferred image d ≡ Some x → x < p → p ≤ x + references_of (moved_word image x) → is_late_reference image p ≡ true
+  pub told-late : (p d x : ℕ) → deferred image d ≡ Some x → x < p → p ≤ x + references_in image.layout (moved_word image x) → is_late_reference image p ≡ true
   told-late p d x e l h =
       let w = deferred-Some image sound d x e in
       let i : ℕ = w.0 in
       let m : i < length image.live = w.1 in
       let to : new_address image (place i) ≡ x = w.3 in
-      let same : references_of (moved_word image x) ≡ references_at image (place i) = ap (λ n. references_of (moved_word image n)) (sym to) ∙ ap references_of (moved-header i m) in
+      let same : references_in image.layout (moved_word image x) ≡ references_at image (place i) = ap (λ n. references_in image.layout (moved_word image n)) (sym to) ∙ ap (references_in image.layout) (moved-header i m) in
       let y : ℕ = new_address image (place i) in
       let n : ℕ = references_at image (place i) in
       list_any_at (begins_late p) image.live i 0 m (and_from (is_deferred image (place i)) (ltb y p && leb p (y + n)) w.2 (and_from (ltb y p) (leb p (y + n)) (lt-ltb y p (omega arith)) (le-leb p (y + n) (omega arith))))
@@ -255,15 +255,15 @@ module _ (image : HeapImage) (sound : HasLiveList image) where
 
   pub moved-same : (p : ℕ) → p < new_top image → is_late_reference image p ≡ false → moved_word image p ≡ compacted_word image p
   moved-same p l h =
-      sym (cond-false (is_late_reference image p) (redirected image (moved_word image p)) (moved_word image p) h)
-      ∙ sym (cond-true (ltb p (new_top image)) (cond (is_late_reference image p) (redirected image (moved_word image p)) (moved_word image p)) 0 (lt-ltb p (new_top image) l))
+      sym (cond-false (is_late_reference image p) (redirected_word image (moved_word image p)) (moved_word image p) h)
+      ∙ sym (cond-true (ltb p (new_top image)) (cond (is_late_reference image p) (redirected_word image (moved_word image p)) (moved_word image p)) 0 (lt-ltb p (new_top image) l))
       ∙ updated-compacted p
 
-  pub moved-late : (p : ℕ) → is_late_reference image p ≡ true → compacted_word image p ≡ redirected image (moved_word image p)
+  pub moved-late : (p : ℕ) → is_late_reference image p ≡ true → compacted_word image p ≡ redirected_word image (moved_word image p)
   moved-late p h =
       sym (updated-compacted p)
-      ∙ cond-true (ltb p (new_top image)) (cond (is_late_reference image p) (redirected image (moved_word image p)) (moved_word image p)) 0 (lt-ltb p (new_top image) (late-below p h))
-      ∙ cond-true (is_late_reference image p) (redirected image (moved_word image p)) (moved_word image p) h
+      ∙ cond-true (ltb p (new_top image)) (cond (is_late_reference image p) (redirected_word image (moved_word image p)) (moved_word image p)) 0 (lt-ltb p (new_top image) (late-below p h))
+      ∙ cond-true (is_late_reference image p) (redirected_word image (moved_word image p)) (moved_word image p) h
 
   -- the header of a deferred object is not changed by the update
   pub late-header : (i : ℕ) → i < length image.live → is_late_reference image (new_address image (place i)) ≡ false
@@ -277,7 +277,7 @@ module _ (image : HeapImage) (sound : HasLiveList image) where
       ∙ and_left (is_reference_of image a a) (is_deferred image a) (and_left (ltb a a) (leb a (a + references_at image a)) (le-ltb a a (omega arith)))
 
   -- no reference is of two deferred objects
-  pub late-once : (p d e x y : ℕ) → deferred image d ≡ Some x → deferred image e ≡ Some y → x < p → p ≤ x + references_of (moved_word image x) → y < p → p ≤ y + references_of (moved_word image y) → (d ≡ e) × (x ≡ y)
+  pub late-once : (p d e x y : ℕ) → deferred image d ≡ Some x → deferred image e ≡ Some y → x < p → p ≤ x + references_in image.layout (moved_word image x) → y < p → p ≤ y + references_in image.layout (moved_word image y) → (d ≡ e) × (x ≡ y)
   late-once p d e x y f g l h m k =
       let v = deferred-Some image sound d x f in
       let w = deferred-Some image sound e y g in
@@ -289,8 +289,8 @@ module _ (image : HeapImage) (sound : HasLiveList image) where
       let to_y : new_address image (place j) ≡ y = w.3 in
       let at_x : region_of image x ≡ d = v.4 in
       let at_y : region_of image y ≡ e = w.4 in
-      let same_x : references_of (moved_word image x) ≡ references_at image (place i) = ap (λ n. references_of (moved_word image n)) (sym to_x) ∙ ap references_of (moved-header i li) in
-      let same_y : references_of (moved_word image y) ≡ references_at image (place j) = ap (λ n. references_of (moved_word image n)) (sym to_y) ∙ ap references_of (moved-header j lj) in
+      let same_x : references_in image.layout (moved_word image x) ≡ references_at image (place i) = ap (λ n. references_in image.layout (moved_word image n)) (sym to_x) ∙ ap (references_in image.layout) (moved-header i li) in
+      let same_y : references_in image.layout (moved_word image y) ≡ references_at image (place j) = ap (λ n. references_in image.layout (moved_word image n)) (sym to_y) ∙ ap (references_in image.layout) (moved-header j lj) in
       let few_x = (sound.sound i 0 li).references in
       let few_y = (sound.sound j 0 lj).references in
       elim (cases_order (place i) (place j)) [

@@ -1,6 +1,6 @@
 -- The compacted image has a live list again.
 use Rattle.std.proofs.Common.{◌≡◌, ℕ, zero, suc, ◌+◌, ◌-◌, ◌^◌, ◌%◌, ◌/◌, ◌≤◌, ◌<◌, inl, inr, true, false, ◌&&◌, List, [], ◌∷◌, length, get_or, refl, sym, ◌∙◌, ap, subst, arith, ltb, leb, eqb, add-zero}
-use Rattle.object_heap.specs.Header.{references_of, filler_header}
+use Rattle.object_heap.specs.Header.{filler_header}
 use Rattle.std.proofs.lemmas.Bool.{false≢true, cases_lt, cases_Bool, and_left, and_right, and_from, lt-leb, le-leb, le-ltb, lt-ltb, cond-true, cond-false, or_right, or_cases, eqb-true, eq-eqb, and_parts, ltb-true, leb-true, cond_both}
 use Rattle.std.proofs.lemmas.List.{get_or-map, length-map, get_or_default, get_or_past}
 use Rattle.std.proofs.lemmas.List.Elements.{All-from_get_or, All-map}
@@ -11,13 +11,15 @@ use Rattle.std.specs.Prelude.{IsTrue, IfSome, Option, Some, None, map, option_ma
 use Rattle.object_heap.specs.Version.{max_regions, max_words}
 use Rattle.std.specs.List.{range_with_len, list_any}
 use Rattle.std.specs.Option.{is_some}
+use Rattle.object_heap.specs.Layout.{Layout, Own, IsLayout, references_in, reference_in, redirected_in}
 use Rattle.object_heap.specs.HeapImage.{HeapImage, AreRoots, IsValid, region_words, is_dead_word, HasLiveList, HasSoundHeader, heap_words, word_at, size_at, references_at, end_of, reference_at, is_word_of, is_live_word, is_null_or_live, live_words}
 use Rattle.summary.proofs.Lemmas.Spans.{is_in_inside}
 use Rattle.summary.proofs.Lemmas.LiveWords.{live_apart, live_end-le}
 use Rattle.summary.specs.NewAddresses.{prefix_end, new_address, new_top}
 use Rattle.summary.specs.WordMoves.{slid, origin}
 use Rattle.summary.specs.Fillers.{filler_limit, filler_word, gap_at, may_begin_filler}
-use Rattle.summary.specs.Compaction.{compact, compacted_word, written, carried, redirected, is_reference_of}
+use Rattle.summary.specs.Redirection.{RedirectsReferences}
+use Rattle.summary.specs.Compaction.{compact, compacted_word, written, carried, redirected, is_reference_of, redirected_word}
 use Rattle.summary.proofs.Lemmas.Addresses.{EndBefore, EndBefore-at, new_address-slid, new_top-live_words, prefix_end-le}
 use Rattle.summary.proofs.Lemmas.Origin.{compact-slid, slid-increasing, live_words-past, length-compact}
 
@@ -93,11 +95,11 @@ module _ (image : HeapImage) (sound : HasLiveList image) where
       ap (word_at (compact image)) (sym (add-zero (new_address image a)))
       ∙ word_of i 0 l some
       ∙ ap (carried image (λ _. true)) (add-zero a)
-      ∙ cond-false (list_any (λ c. is_reference_of image c a && true) image.live) (redirected image (word_at image a)) (word_at image a) (header_is_no_reference i l)
+      ∙ cond-false (list_any (λ c. is_reference_of image c a && true) image.live) (redirected_word image (word_at image a)) (word_at image a) (header_is_no_reference i l)
 
-  -- a reference is redirected
-  pub reference_of_moved : (i f : ℕ) → i < length image.live → f < references_at image (place i) → word_at (compact image) (new_address image (place i) + 1 + f) ≡ redirected image (reference_at image (place i) f)
-  reference_of_moved i f l k =
+  -- a word that is a reference is redirected
+  reference_word : (i f : ℕ) → i < length image.live → f < references_at image (place i) → word_at (compact image) (new_address image (place i) + 1 + f) ≡ redirected_word image (word_at image (place i + 1 + f))
+  reference_word i f l k =
       let few = (sound.sound i 0 l).references in
       let a : ℕ = place i in
       let e : new_address image a + 1 + f ≡ new_address image a + (1 + f) = omega arith in
@@ -106,7 +108,7 @@ module _ (image : HeapImage) (sound : HasLiveList image) where
       ap (word_at (compact image)) e
       ∙ word_of i (1 + f) l (omega arith)
       ∙ ap (carried image (λ _. true)) e'
-      ∙ cond-true (list_any (λ c. is_reference_of image c (a + 1 + f) && true) image.live) (redirected image (word_at image (a + 1 + f))) (word_at image (a + 1 + f)) yes
+      ∙ cond-true (list_any (λ c. is_reference_of image c (a + 1 + f) && true) image.live) (redirected_word image (word_at image (a + 1 + f))) (word_at image (a + 1 + f)) yes
 
   abbrev pub after : HeapImage
   after = compact image
@@ -174,8 +176,58 @@ module _ (image : HeapImage) (sound : HasLiveList image) where
     ]
   ]
 
-  pub compact-HasLiveList : HasLiveList (compact image)
-  compact-HasLiveList =
+  -- where a reference to an object leads in the compacted heap
+  leads_where : (w : ℕ) → is_null_or_live image w ≡ true → 0 < w → (k : ℕ) × (k < length image.live) × (redirected image w ≡ new_address image (place k) + 1)
+  leads_where w h more = elim (or_cases (eqb w 0) (list_any (λ a. eqb w (a + 1)) image.live) h) [
+    | inl null ↦ let z = eqb-true w 0 null in let no : ⊥ = omega arith in absurd no
+    | inr found ↦
+        let at = Any-from_list_any (λ a. eqb w (a + 1)) image.live found in
+        let k : ℕ = at.0 in
+        let x : ℕ = at.1 in
+        let l : k < length image.live = at.2 in
+        let is : place k ≡ x = get_or_default image.live k 0 x l ∙ at.3 in
+        let e : w ≡ x + 1 = eqb-true w (x + 1) at.4 in
+        let e' : w - 1 ≡ place k = omega arith in
+        let some : eqb w 0 ≡ false = elim (cases_Bool (eqb w 0)) [
+          | inr some ↦ some
+          | inl none ↦ let z = eqb-true w 0 none in let no : ⊥ = omega arith in absurd no
+        ] in
+        (k, l, cond-false (eqb w 0) 0 (new_address image (w - 1) + 1) some ∙ ap (λ c. new_address image c + 1) e')
+  ]
+
+  redirected_null : (w : ℕ) → w ≡ 0 → redirected image w ≡ 0
+  redirected_null w z = cond-true (eqb w 0) 0 (new_address image (w - 1) + 1) (eq-eqb w 0 z)
+
+  pub redirected_low : (w : ℕ) → is_null_or_live image w ≡ true → redirected image w ≤ N
+  redirected_low w h = elim (cases_lt 0 w) [
+    | inl more ↦
+        let to = leads_where w h more in
+        let is = to.2 in
+        let some = (sound.sound to.0 0 to.1).header in
+        let last = last_word to.0 to.1 in
+        omega arith
+    | inr none ↦ let z : w ≡ 0 = omega arith in let r = redirected_null w z in omega arith
+  ]
+
+  -- a redirected word leads to where its reference is redirected
+  leads_redirected : RedirectsReferences image.layout N → (w : ℕ) → is_null_or_live image (reference_in image.layout w) ≡ true → reference_in image.layout (redirected_word image w) ≡ redirected image (reference_in image.layout w)
+  leads_redirected lawful w h = elim (cases_lt 0 (reference_in image.layout w)) [
+    | inl more ↦
+        let to = leads_where (reference_in image.layout w) h more in
+        let is = to.2 in
+        lawful.leads w (redirected image (reference_in image.layout w)) more (omega arith) (redirected_low (reference_in image.layout w) h)
+    | inr none ↦
+        let z : reference_in image.layout w ≡ 0 = omega arith in
+        let r : redirected image (reference_in image.layout w) ≡ 0 = redirected_null (reference_in image.layout w) z in
+        ap (reference_in image.layout) (ap (redirected_in image.layout w) (r ∙ sym z) ∙ lawful.stays w) ∙ z ∙ sym r
+  ]
+
+  -- a reference is redirected
+  pub reference_of_moved : RedirectsReferences image.layout N → (i f : ℕ) → i < length image.live → f < references_at image (place i) → reference_at (compact image) (new_address image (place i)) f ≡ redirected image (reference_at image (place i) f)
+  reference_of_moved lawful i f l k = ap (reference_in image.layout) (reference_word i f l k) ∙ leads_redirected lawful (word_at image (place i + 1 + f)) (sound.references i 0 l f k)
+
+  pub compact-HasLiveList : RedirectsReferences image.layout N → HasLiveList (compact image)
+  compact-HasLiveList lawful =
       let count = count_same in
       record {
         sound = All-from_get_or (HasSoundHeader after) after.live 0 sound_after;
@@ -186,9 +238,17 @@ module _ (image : HeapImage) (sound : HasLiveList image) where
         references = All-from_get_or (λ a. (f : ℕ) → f < references_at after a → IsTrue (is_null_or_live after (reference_at after a f))) after.live 0 (λ i l.
             let k : i < length image.live = omega arith in
             rw (new_at i 0 k) (λ f m.
-            let m' : f < references_at image (place i) = subst (λ w. f < references_of w) (header_of_moved i k) m in
-            rw (reference_of_moved i f k m') (redirected_is_live (reference_at image (place i) f) (sound.references i 0 k f m'))));
+            let m' : f < references_at image (place i) = subst (λ w. f < references_in image.layout w) (header_of_moved i k) m in
+            rw (reference_of_moved lawful i f k m') (redirected_is_live (reference_at image (place i) f) (sound.references i 0 k f m'))));
       }
+
+-- references of a lawful layout can be redirected
+pub redirecting : {layout : Layout} {words : ℕ} → IsLayout layout words → RedirectsReferences layout words
+redirecting lawful = record { leads = lawful.leads; stays = lawful.stays }
+
+-- so can those of images in files, whatever the number of words
+pub own_redirects : (words : ℕ) → RedirectsReferences Own words
+own_redirects words = record { leads = λ w r some to low. refl; stays = λ w. refl }
 
 -- there are as many lists of roots as before
 same_roots : (f : List ℕ → List ℕ) (o : Option (List ℕ)) → is_some (option_map f o) ≡ is_some o
@@ -196,34 +256,15 @@ same_roots f None = refl
 same_roots f (Some xs) = refl
 
 module _ (image : HeapImage) (valid : IsValid image) where
-  new_fits : (k : ℕ) → k < length image.live → new_address image (place image valid.live_list k) + 1 < 2 ^ 64
-  new_fits k l =
-      let e = last_word image valid.live_list k l in
-      let some = (valid.live_list.sound k 0 l).header in
-      let few = valid.limits.few_words in
-      omega arith
+  word_fits : (q : ℕ) → word_at image q < 2 ^ 64
+  word_fits q = elim (cases_lt q (heap_words image)) [ inl l ↦ valid.words_fit q 0 l | inr g ↦ let past = get_or_past image.words q 0 g in omega arith ]
 
-  redirected_fits : (w : ℕ) → is_null_or_live image w ≡ true → redirected image w < 2 ^ 64
-  redirected_fits w h = elim (cases_Bool (eqb w 0)) [
-    | inl null ↦ rw (cond-true (eqb w 0) 0 (new_address image (w - 1) + 1) null) (omega arith)
-    | inr some ↦ elim (or_cases (eqb w 0) (list_any (λ a. eqb w (a + 1)) image.live) h) [
-      | inl null ↦ absurd (false≢true (sym some ∙ null))
-      | inr found ↦
-          let at = Any-from_list_any (λ a. eqb w (a + 1)) image.live found in
-          let k : ℕ = at.0 in
-          let x : ℕ = at.1 in
-          let l : k < length image.live = at.2 in
-          let is : get_or image.live k x ≡ x = at.3 in
-          let is' : get_or image.live k 0 ≡ x = get_or_default image.live k 0 x l ∙ is in
-          let e : w ≡ x + 1 = eqb-true w (x + 1) at.4 in
-          let e' : w - 1 ≡ get_or image.live k 0 = omega arith in
-          rw (cond-false (eqb w 0) 0 (new_address image (w - 1) + 1) some) (rw e' (new_fits k l))
-    ]
-  ]
+  redirected_fits : (q : ℕ) → is_null_or_live image (reference_in image.layout (word_at image q)) ≡ true → redirected_word image (word_at image q) < 2 ^ 64
+  redirected_fits q h = valid.lawful.fits (word_at image q) (redirected image (reference_in image.layout (word_at image q))) (word_fits q) (redirected_low image valid.live_list (reference_in image.layout (word_at image q)) h)
 
   carried_fits : (q : ℕ) → carried image (λ _. true) q < 2 ^ 64
   carried_fits q = elim (cases_Bool (list_any (λ c. is_reference_of image c q && true) image.live)) [
-    | inr none ↦ rw (cond-false (list_any (λ c. is_reference_of image c q && true) image.live) (redirected image (word_at image q)) (word_at image q) none) (word_fits q)
+    | inr none ↦ rw (cond-false (list_any (λ c. is_reference_of image c q && true) image.live) (redirected_word image (word_at image q)) (word_at image q) none) (word_fits q)
     | inl found ↦
         let at = Any-from_list_any (λ c. is_reference_of image c q && true) image.live found in
         let k : ℕ = at.0 in
@@ -236,12 +277,9 @@ module _ (image : HeapImage) (valid : IsValid image) where
         let f : ℕ = q - (x + 1) in
         let place : x + 1 + f ≡ q = omega arith in
         let field : f < references_at image (get_or image.live k 0) = rw is' (omega arith) in
-        let live : is_null_or_live image (word_at image (x + 1 + f)) ≡ true = subst (λ a. is_null_or_live image (word_at image (a + 1 + f)) ≡ true) is' (valid.live_list.references k 0 l f field) in
-        rw (cond-true (list_any (λ c. is_reference_of image c q && true) image.live) (redirected image (word_at image q)) (word_at image q) found) (redirected_fits (word_at image q) (subst (λ p. is_null_or_live image (word_at image p) ≡ true) place live))
+        let live : is_null_or_live image (reference_in image.layout (word_at image (x + 1 + f))) ≡ true = subst (λ a. is_null_or_live image (reference_in image.layout (word_at image (a + 1 + f))) ≡ true) is' (valid.live_list.references k 0 l f field) in
+        rw (cond-true (list_any (λ c. is_reference_of image c q && true) image.live) (redirected_word image (word_at image q)) (word_at image q) found) (redirected_fits q (subst (λ p. is_null_or_live image (reference_in image.layout (word_at image p)) ≡ true) place live))
   ]
-    where
-      word_fits : (q : ℕ) → word_at image q < 2 ^ 64
-      word_fits q = elim (cases_lt q (heap_words image)) [ inl l ↦ valid.words_fit q 0 l | inr g ↦ let past = get_or_past image.words q 0 g in omega arith ]
 
   filler_fits : (p : ℕ) → filler_word image p < 2 ^ 64
   filler_fits p =
@@ -266,6 +304,8 @@ module _ (image : HeapImage) (valid : IsValid image) where
       let few = valid.limits.few_words in
       let fewer = valid.limits.few_live in
       record {
+        own = valid.own;
+        lawful = subst (IsLayout image.layout) (sym long) valid.lawful;
         limits = record {
           region_log_low = valid.limits.region_log_low;
           region_log_high = valid.limits.region_log_high;
@@ -282,7 +322,7 @@ module _ (image : HeapImage) (valid : IsValid image) where
         };
         allowance_fits = valid.allowance_fits;
         words_fit = All-map (λ w. w < 2 ^ 64) (compacted_word image) (range_with_len 0 (heap_words image)) (λ k d l. compacted_fits (get_or (range_with_len 0 (heap_words image)) k d));
-        live_list = compact-HasLiveList image valid.live_list;
+        live_list = compact-HasLiveList image valid.live_list (redirecting valid.lawful);
         versioned = same_roots (map (redirected image)) image.roots ∙ valid.versioned;
         rooted = rooted;
       }

@@ -2,11 +2,11 @@
 
 ghost use Rattle.std.specs.Prelude.{◌≡◌, ◌+◌, ◌<◌, ◌≤◌, true, false, Some, None, not, ℕ, map, cond};
 ghost use Rattle.std.specs.List.{range_with_len};
-ghost use Rattle.object_heap.specs.Header.{references_of};
+ghost use Rattle.object_heap.specs.Layout.{references_in};
 ghost use Rattle.object_heap.specs.HeapImage.{HeapImage, HasLiveList, heap_words, region_of, word_at, size_at, references_at};
 ghost use Rattle.summary.specs.LiveObjects.{object_count, object_at};
 ghost use Rattle.summary.specs.NewAddresses.{new_address, new_top};
-ghost use Rattle.summary.specs.Compaction.{redirected, is_deferred, carried, moved_word, compacted_word, moved, compact};
+ghost use Rattle.summary.specs.Compaction.{is_deferred, carried, moved_word, compacted_word, moved, compact, redirected_word};
 ghost use Rattle.summary.specs.RegionData.{region_addresses, deferred};
 ghost use Rattle.summary.specs.Updates.{is_late_reference, updated_word};
 
@@ -44,7 +44,7 @@ pub fn moved_objects()
         → f < references_at image (object_at image i)
         → moved_word image (new_address image (object_at image i) + (1 + f))
         ≡ cond (is_deferred image (object_at image i)) (word_at image (object_at image i +
-        (1 + f))) (redirected image (word_at image (object_at image i + (1 + f)))) }
+        (1 + f))) (redirected_word image (word_at image (object_at image i + (1 + f)))) }
 {}
 
 /// Redirecting the references of the deferred objects and clearing the words from the new top up makes the compacted
@@ -56,20 +56,20 @@ pub fn update_then_clear()
         → map (updated_word image) (range_with_len 0 (heap_words image)) ≡ (compact image).words }
     ensures late { (image : HeapImage) → HasLiveList image → (p : ℕ) → is_late_reference image p ≡ true
         → (d : ℕ) × (x : ℕ) × (deferred image d ≡ Some x) × (x < p)
-        × (p ≤ x + references_of (moved_word image x)) }
+        × (p ≤ x + references_in image.layout (moved_word image x)) }
     ensures are_late { (image : HeapImage) → HasLiveList image → (p d x : ℕ) → deferred image d ≡ Some x → x < p
-        → p ≤ x + references_of (moved_word image x) → is_late_reference image p ≡ true }
+        → p ≤ x + references_in image.layout (moved_word image x) → is_late_reference image p ≡ true }
     ensures same { (image : HeapImage) → HasLiveList image → (p : ℕ) → p < new_top image
         → is_late_reference image p ≡ false → moved_word image p ≡ compacted_word image p }
     ensures redirected { (image : HeapImage) → HasLiveList image → (p : ℕ) → is_late_reference image p ≡ true
-        → compacted_word image p ≡ redirected image (moved_word image p) }
+        → compacted_word image p ≡ redirected_word image (moved_word image p) }
     ensures below { (image : HeapImage) → HasLiveList image → (p : ℕ) → is_late_reference image p ≡ true
         → p < new_top image }
     ensures header { (image : HeapImage) → HasLiveList image → (i : ℕ) → i < object_count image
         → is_late_reference image (new_address image (object_at image i)) ≡ false }
     ensures once { (image : HeapImage) → HasLiveList image → (p d e x y : ℕ) → deferred image d ≡ Some x
-        → deferred image e ≡ Some y → x < p → p ≤ x + references_of (moved_word image x) → y < p
-        → p ≤ y + references_of (moved_word image y) → (d ≡ e) × (x ≡ y) }
+        → deferred image e ≡ Some y → x < p → p ≤ x + references_in image.layout (moved_word image x) → y < p
+        → p ≤ y + references_in image.layout (moved_word image y) → (d ≡ e) × (x ≡ y) }
     ensures blocks { (image : HeapImage) → HasLiveList image → (r : ℕ)
         → map (updated_word image) (region_addresses image r)
         ≡ map (compacted_word image) (region_addresses image r) }

@@ -3,7 +3,7 @@
 ghost use Rattle.std.specs.Prelude.{◌≡◌, ℕ, ◌<◌, ◌≤◌, false, IsTrue, IfOk};
 ghost use Rattle.object_heap.specs.HeapImage.{heap_words, region_count};
 ghost use Rattle.mark_bitmap.specs.Marks.{is_begin};
-ghost use Rattle.summary.specs.Layout.{region_counts, AreRegionCounts, IsOwnStart, AreOwnStarts};
+ghost use Rattle.summary.specs.RegionPlaces.{region_counts, AreRegionCounts, IsOwnStart, AreOwnStarts};
 
 use super::region_counts::RegionCounts;
 use heap_image::Image;

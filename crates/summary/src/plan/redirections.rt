@@ -2,6 +2,7 @@
 
 ghost use Rattle.std.specs.Prelude.{◌≡◌, ◌-◌, ◌<◌, ◌≤◌, map, All, IfOk, IsTrue, Contains};
 ghost use Rattle.object_heap.specs.HeapImage.{heap_words, is_live_word, is_null_or_live};
+ghost use Rattle.summary.specs.WordMoves.{slid};
 ghost use Rattle.summary.specs.NewAddresses.{prefix_end, new_address};
 ghost use Rattle.summary.specs.Compaction.{redirected};
 ghost use Rattle.summary.specs.Redirections.{counted_below};
@@ -82,6 +83,15 @@ impl Redirections {
         self.as_slices().new_address(a)
     }
 
+    /// Where the live word at `q` goes, the first of its object or not.
+    #[inline]
+    pub(crate) fn new_place(&self, q: u64) -> u64
+        requires { IsTrue (is_live_word self.now q) }
+        ensures { result ≡ slid self.now q }
+    {
+        self.as_slices().new_place(q)
+    }
+
     /// The reference to the same object after the collection; null stays null.
     #[inline]
     pub(crate) fn redirected(&self, reference: u64) -> u64
@@ -146,6 +156,17 @@ impl RedirectionSlices<'_> {
         // The image is valid by what they keep.
         let _image = self.image;
         self.rank(a + 1) - 1
+    }
+
+    /// Where the live word at `q` goes.
+    #[inline]
+    fn new_place(&self, q: u64) -> u64
+        requires { IsTrue (is_live_word self.now q) }
+        ensures { result ≡ slid self.now q }
+    {
+        // The image is valid by what they keep.
+        let _image = self.image;
+        self.rank(q + 1) - 1
     }
 
     /// The reference to the same object after the collection; null stays null.

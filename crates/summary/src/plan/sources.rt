@@ -5,7 +5,7 @@ ghost use Rattle.std.specs.List.{range_with_len};
 ghost use Rattle.object_heap.specs.HeapImage.{region_count};
 ghost use Rattle.summary.specs.NewAddresses.{prefix_end};
 ghost use Rattle.summary.specs.RegionData.{region_data, source};
-ghost use Rattle.summary.specs.Layout.{placed_region};
+ghost use Rattle.summary.specs.RegionPlaces.{placed_region};
 ghost use Rattle.summary.specs.Sources.{StartsOnly, region_so_far};
 
 use crate::region_row::RegionRow;

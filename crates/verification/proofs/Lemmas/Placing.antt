@@ -1,15 +1,15 @@
 -- The live objects of an image and their new addresses.
-use Rattle.std.proofs.Common.{◌≡◌, ℕ, zero, suc, ◌+◌, ◌-◌, ◌≤◌, ◌<◌, inl, inr, false, List, [], ◌∷◌, length, get_or, drop, refl, sym, ◌∙◌, ap, subst, arith, ltb}
+use Rattle.std.proofs.Common.{◌≡◌, ℕ, zero, suc, ◌+◌, ◌-◌, ◌≤◌, ◌<◌, inl, inr, true, false, List, [], ◌∷◌, length, get_or, drop, refl, sym, ◌∙◌, ap, subst, arith, ltb}
 use Rattle.std.specs.Prelude.{slice_range, fold, replicate, nat_lt, nat_le, if◌then◌else◌}
 use Rattle.std.proofs.lemmas.Bool.{cases_Bool, cond-true, cond-false, lt-ltb, le-ltb, le-leb, ltb-true, leb-true, and_from, and_parts, false_from_ne_true}
 use Rattle.std.proofs.lemmas.List.{get_or-drop, get_or-take, get_or-replicate}
 use Rattle.std.proofs.lemmas.List.FromFn.{get_or-map-range_with_len}
-use Rattle.object_heap.specs.HeapImage.{HeapImage, heap_words, word_at, size_at, references_at, end_of, is_live_word, live_words}
+use Rattle.object_heap.specs.HeapImage.{HeapImage, heap_words, word_at, size_at, references_at, end_of, is_live_word, is_null_or_live, live_words}
 use Rattle.summary.specs.LiveObjects.{object_count, object_at}
 use Rattle.summary.specs.NewAddresses.{prefix_end, new_address, new_end_of, new_top, next_at}
 use Rattle.summary.specs.WordMoves.{slid}
 use Rattle.object_heap.specs.Header.{filler_header}
-use Rattle.summary.specs.Compaction.{is_reference_of, redirected, compacted_word, compact}
+use Rattle.summary.specs.Compaction.{is_reference_of, redirected, redirected_word, compacted_word, compact}
 use Rattle.verification.specs.Compared.{IsGap, IsPlaced, AreKnown, behind}
 use Rattle.verification.proofs.Lemmas.Joined.{AreWanted}
 use Rattle.verification.proofs.Lemmas.Gaps.{ArePlaced, behind-zero, behind-suc, behind_low, gap_low, gap_empty, gap_begins, low_stays, top_low}
@@ -73,7 +73,7 @@ module _ (image : HeapImage) where
     is_placed i l = record {
       valid = known.valid;
       sound = known.valid.live_list.sound i 0 l;
-      references = known.valid.live_list.references i 0 l;
+      references = λ f h. subst (λ w. is_null_or_live image w ≡ true) (known.own.leads (word_at image (at i + 1 + f))) (known.valid.live_list.references i 0 l f h);
       inside = within (place_end i) (new_top image) (heap_words image) (known.below i l) known.top;
       words = words;
     }
@@ -86,7 +86,8 @@ module _ (image : HeapImage) where
             let long : (p n : ℕ) → j < n → j < p + n - p = λ p n h. omega (arith, h) in
             sym (part_at (compact image).words (place i) (place_end i) j (long (place i) (size i) m))
             ∙ ap (λ xs. get_or xs j 0) (known.object i l)
-            ∙ get_or-map-range_with_len (λ q. if is_reference_of image (at i) q then redirected image (word_at image q) else word_at image q) (at i) (size i) j (at i + j) 0 m refl
+            ∙ get_or-map-range_with_len (λ q. if is_reference_of image (at i) q then redirected_word image (word_at image q) else word_at image q) (at i) (size i) j (at i + j) 0 m refl
+            ∙ ap (λ w. if is_reference_of image (at i) (at i + j) then w else word_at image (at i + j)) (known.own.redirects (word_at image (at i + j)))
 
     pub is_gap : (i : ℕ) → i < object_count image → behind place_end i < place i → IsGap image (behind place_end i) (place i)
     is_gap i l some = record {

@@ -14,8 +14,8 @@ use Rattle.verification.specs.Verdict.{HaveSameShape, IsVerdict, IsVerdictBelow,
 use Rattle.verification.specs.declared.verdict.Verdict.{Verdict}
 use Rattle.verification.specs.declared.verdict.Verdict.TheVariants.{Same, Shape, Word, Live, Root}
 
-same_image : (x y : HeapImage) → x.version ≡ y.version → x.region_log ≡ y.region_log → x.allowance ≡ y.allowance → x.words ≡ y.words → x.live ≡ y.live → x.roots ≡ y.roots → x ≡ y
-same_image x y v a b c d e = λ i. record { version = v i; region_log = a i; allowance = b i; words = c i; live = d i; roots = e i }
+same_image : (x y : HeapImage) → x.layout ≡ y.layout → x.version ≡ y.version → x.region_log ≡ y.region_log → x.allowance ≡ y.allowance → x.words ≡ y.words → x.live ≡ y.live → x.roots ≡ y.roots → x ≡ y
+same_image x y l v a b c d e = λ i. record { version = v i; layout = l i; region_log = a i; allowance = b i; words = c i; live = d i; roots = e i }
 
 -- the same numbers, where both images have roots or neither
 same_roots : (o p : Option (List ℕ)) → is_some o ≡ is_some p → roots_or [] o ≡ roots_or [] p → o ≡ p
@@ -49,10 +49,10 @@ module _ (before after : HeapImage) (long : heap_words (compact before) ≡ heap
   new_root i = redirected before (root_at before i)
 
   pub shape : HaveSameShape before after → HaveSameShape (compact before) after
-  shape h = record { region_log = h.region_log; words = h.words ∙ sym long; allowance = h.allowance; live = h.live ∙ sym live_count; version = h.version; rooted = h.rooted ∙ sym (same_some (map (redirected before)) before.roots); roots = h.roots ∙ sym root_count_same }
+  shape h = record { layout = h.layout; region_log = h.region_log; words = h.words ∙ sym long; allowance = h.allowance; live = h.live ∙ sym live_count; version = h.version; rooted = h.rooted ∙ sym (same_some (map (redirected before)) before.roots); roots = h.roots ∙ sym root_count_same }
 
   pub shape_back : HaveSameShape (compact before) after → HaveSameShape before after
-  shape_back h = record { region_log = h.region_log; words = h.words ∙ long; allowance = h.allowance; live = h.live ∙ live_count; version = h.version; rooted = h.rooted ∙ same_some (map (redirected before)) before.roots; roots = h.roots ∙ root_count_same }
+  shape_back h = record { layout = h.layout; region_log = h.region_log; words = h.words ∙ long; allowance = h.allowance; live = h.live ∙ live_count; version = h.version; rooted = h.rooted ∙ same_some (map (redirected before)) before.roots; roots = h.roots ∙ root_count_same }
 
   pub words_same : HaveSameShape before after → AreCompacted before after 0 (heap_words before) → after.words ≡ (compact before).words
   words_same h alike = ext_get_or 0 after.words (compact before).words (h.words ∙ sym long) (λ k l. alike.alike k (omega arith) (subst (λ n. k < n) h.words l))
@@ -100,7 +100,7 @@ module _ (before after : HeapImage) (long : heap_words (compact before) ≡ heap
   -- the verdict on live lists and roots, once all words agree
   pub after_words : HaveSameShape before after → AreCompacted before after 0 (heap_words before)
       → (verdict : Verdict) → IsVerdictOnLists (compact before) after verdict → IsVerdict (compact before) after verdict
-  after_words h words Same lists = same_image after (compact before) h.version h.region_log h.allowance (words_same h words) lists.0 lists.1
+  after_words h words Same lists = same_image after (compact before) h.layout h.version h.region_log h.allowance (words_same h words) lists.0 lists.1
   after_words h words Shape w = absurd w
   after_words h words (Word a) w = absurd w
   after_words h words (Live i) other = (shape h, words_same h words, other)

@@ -12,7 +12,7 @@ pub returns-clause-moved : goal.returns-clause-moved
 returns-clause-moved c image valid p low high =
     let list = valid.live_list in
     let new_list = (c.compaction_is_valid.ensures image valid).live_list in
-    let graph = c.compaction_keeps_the_graph.ensures image list in
+    let graph = c.compaction_keeps_the_graph.ensures image list (record { leads = valid.lawful.leads; stays = valid.lawful.stays }) in
     let at = c.no_gaps_above_the_prefix.ensures image list p low high in
     let is = place image at.0 at.1 in
     let ends = end image at.0 at.1 graph in
@@ -22,7 +22,7 @@ pub returns-clause-free : goal.returns-clause-free
 returns-clause-free c image valid p above =
     let list = valid.live_list in
     let new_list = (c.compaction_is_valid.ensures image valid).live_list in
-    let graph = c.compaction_keeps_the_graph.ensures image list in
+    let graph = c.compaction_keeps_the_graph.ensures image list (record { leads = valid.lawful.leads; stays = valid.lawful.stays }) in
     false_from_ne_true (is_live_word (compact image) p) (λ lives.
     let at = c.words_of_objects.ensures.owner (compact image) new_list p lives in
     let inside : at.0 < object_count image = omega (arith, graph.objects, at.1) in
@@ -34,7 +34,7 @@ pub returns-clause-below : goal.returns-clause-below
 returns-clause-below c image valid p below =
     let list = valid.live_list in
     let new_list = (c.compaction_is_valid.ensures image valid).live_list in
-    let graph = c.compaction_keeps_the_graph.ensures image list in
+    let graph = c.compaction_keeps_the_graph.ensures image list (record { leads = valid.lawful.leads; stays = valid.lawful.stays }) in
     elim (cases_Bool (is_live_word image p)) [
       | inl lives ↦
           let at = c.words_of_objects.ensures.owner image list p lives in

@@ -20,7 +20,7 @@ into_image-requires c =
     let image = c.args.image.now in
     let valid = c.region_log.ensures.valid in
     let all : c.loop-r.r ≡ region_count image = let low = c.loop-r-test.false in let high = c.loop-r.auto.r-end in let is = c.regions-r-end.ensures.value in omega arith in
-    let parts = c.plan_laws.ensures.parts-of_blocks image c.version.result c.region_log.result c.allowance.result c.loop-r.r c.loop-r.regions.items c.in_ok-places.places.new_live.items (option_map (λ v. v.items) c.in_ok-roots.roots) valid.limits.whole_regions c.version.ensures.value c.region_log.ensures.value c.allowance.ensures c.loop-r.invariant all c.in_ok-places.ensures.live c.in_ok-roots.ensures in
+    let parts = c.plan_laws.ensures.parts-of_blocks image c.image_is_own.ensures.layout c.version.result c.region_log.result c.allowance.result c.loop-r.r c.loop-r.regions.items c.in_ok-places.places.new_live.items (option_map (λ v. v.items) c.in_ok-roots.roots) valid.limits.whole_regions c.version.ensures.value c.region_log.ensures.value c.allowance.ensures c.loop-r.invariant all c.in_ok-places.ensures.live c.in_ok-roots.ensures in
     record { regions = parts.0; valid = subst IsValid (sym parts.1) (c.plan_laws.ensures.compact-IsValid image valid) }
 
 pub returns : goal.returns
@@ -28,5 +28,5 @@ returns c =
     let image = c.args.image.now in
     let valid = c.region_log.ensures.valid in
     let all : c.loop-r.r ≡ region_count image = let low = c.loop-r-test.false in let high = c.loop-r.auto.r-end in let is = c.regions-r-end.ensures.value in omega arith in
-    let parts = c.plan_laws.ensures.parts-of_blocks image c.version.result c.region_log.result c.allowance.result c.loop-r.r c.loop-r.regions.items c.in_ok-places.places.new_live.items (option_map (λ v. v.items) c.in_ok-roots.roots) valid.limits.whole_regions c.version.ensures.value c.region_log.ensures.value c.allowance.ensures c.loop-r.invariant all c.in_ok-places.ensures.live c.in_ok-roots.ensures in
+    let parts = c.plan_laws.ensures.parts-of_blocks image c.image_is_own.ensures.layout c.version.result c.region_log.result c.allowance.result c.loop-r.r c.loop-r.regions.items c.in_ok-places.places.new_live.items (option_map (λ v. v.items) c.in_ok-roots.roots) valid.limits.whole_regions c.version.ensures.value c.region_log.ensures.value c.allowance.ensures c.loop-r.invariant all c.in_ok-places.ensures.live c.in_ok-roots.ensures in
     c.into_image.ensures ∙ parts.1

@@ -8,6 +8,7 @@ returns c =
     let list = valid.live_list in
     record {
       valid = valid;
+      own = c.image_is_own.ensures;
       below_end = (c.prefix_end_is_greatest.ensures image).below_end;
       owner = c.words_of_objects.ensures.owner image list;
       live = c.words_of_objects.ensures.live image list;

@@ -1,5 +1,6 @@
-use Rattle.std.proofs.Common.{ℕ, sym, ap, ◌∙◌}
-use Rattle.object_heap.specs.HeapImage.{HasLiveList}
+use Rattle.std.proofs.Common.{◌≡◌, ℕ, true, sym, ap, subst, ◌∙◌}
+use Rattle.object_heap.specs.HeapImage.{HasLiveList, is_null_or_live}
+use Rattle.summary.specs.Compaction.{moved_word}
 use Rattle.summary.specs.Updates.{is_late_reference}
 use Rattle.fill.proofs.Lemmas.Late.{behind-parts, not_before, header_not_before, late_sound}
 use Rattle.fill.proofs.Lemmas.Parts.{cut_behind}
@@ -21,5 +22,5 @@ returns c =
       cut = cut_behind image d x c.requires.begins o.4 (λ e y h. (c.one_deferred_object.ensures.object image s e y h).4)
           (header_not_before image s d x c.requires.begins (c.update_then_clear.ensures.are_late image s)
           (ap (is_late_reference image) (sym o.3) ∙ c.update_then_clear.ensures.header image s o.0 o.1));
-      sound = λ p h. (let both = behind-parts image x p h in late_sound image s d x c.requires.begins o.0 o.1 o.3 header o.2 (λ f few. c.moved_objects.ensures.reference image s o.0 f o.1 few) p both.0 both.1);
+      sound = λ p h. (let both = behind-parts image x p h in subst (λ (r : ℕ). is_null_or_live image r ≡ true) (c.planned_image_is_own.ensures.leads (moved_word image p)) (late_sound image s d x c.requires.begins o.0 o.1 o.3 header o.2 (λ f few. c.moved_objects.ensures.reference image s o.0 f o.1 few) p both.0 both.1));
     }

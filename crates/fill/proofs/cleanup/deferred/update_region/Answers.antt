@@ -1,6 +1,7 @@
 use Rattle.std.proofs.Common.{◌≡◌, ◌+◌, ◌-◌, ◌*◌, ◌≤◌, ◌<◌, ℕ, length, get_or, true, sym, ◌∙◌, ap, subst, arith, None}
 use Rattle.std.specs.List.{concat}
 use Rattle.object_heap.specs.Header.{references_of}
+use Rattle.object_heap.specs.Layout.{references_in}
 use Rattle.object_heap.specs.HeapImage.{HeapImage, FormHeap, region_words, start_of, is_null_or_live}
 use Rattle.summary.specs.Compaction.{moved_word, redirected}
 use Rattle.fill.specs.MovedHeap.{is_late_before, is_reference_behind, words_from}
@@ -20,7 +21,7 @@ word-requires-clause-inside c =
     omega arith
 
 -- the references that are visited
-count : (c : After-from) → c.from.result ≡ references_of (moved_word c.args.plan.now c.in-Some.begin)
+count : (c : After-from) → c.from.result ≡ references_in c.args.plan.now.layout (moved_word c.args.plan.now c.in-Some.begin)
 count c =
     let image : HeapImage = c.args.plan.now in
     let d : ℕ = c.args.d in
@@ -35,7 +36,7 @@ count c =
     let is : c.word.result ≡ moved_word image x = c.word.ensures ∙ ap (λ ws. get_or ws k 0) c.requires.words
     ∙ words_not image a size (is_late_before image d) k (omega arith) (ap (is_late_before image d) at ∙ c.late_references.ensures.header)
     ∙ ap (moved_word image) at in
-    c.from.ensures ∙ c.references.ensures ∙ ap references_of is
+    c.from.ensures ∙ c.references.ensures ∙ ap references_of is ∙ sym (c.planned_image_is_own.ensures.references (moved_word image x))
 
 pub loop-p-init : goal.loop-p-init
 loop-p-init c =
@@ -63,7 +64,7 @@ module _ (c : In-loop-p) where
   abbrev q : ℕ
   q = start_of c.args.plan.now c.args.first + c.loop-p.p
 
-  come_to : (c.in-Some.begin < q) × (q ≤ c.in-Some.begin + references_of (moved_word c.args.plan.now c.in-Some.begin)) × (c.loop-p.p < still)
+  come_to : (c.in-Some.begin < q) × (q ≤ c.in-Some.begin + references_in c.args.plan.now.layout (moved_word c.args.plan.now c.in-Some.begin)) × (c.loop-p.p < still)
   come_to =
       let same : still ≡ length c.args.regions.now * region_words c.args.plan.now = ap (λ n. n * region_words c.args.plan.now) c.loop-p.auto.regions in
       let low = c.references_in_part.ensures.0 in
@@ -106,7 +107,7 @@ loop-p-preserved c =
       heap = subst (λ (log : ℕ). FormHeap log c.set_word.new.regions) c.region_log-log.ensures.value c.set_word.ensures.heap;
       end = c.loop-p.invariant.end;
       words = c.set_word.ensures.value
-          ∙ late_set image c.args.first c.args.d c.in-Some.begin p c.loop-p.regions c.loop-p.invariant.words c.redirected.result to.2 to.0 (c.redirected.ensures ∙ ap (redirected image) is)
+          ∙ late_set image c.args.first c.args.d c.in-Some.begin p c.loop-p.regions c.loop-p.invariant.words c.redirected.result to.2 to.0 (c.redirected.ensures ∙ ap (redirected image) is ∙ sym (c.planned_image_is_own.ensures.redirects (moved_word image (q here))))
           ∙ ap (λ n. words_from image c.args.first n (late_up_to image c.args.d c.in-Some.begin (start_of image c.args.first + (p + 1)))) (sym c.set_word.auto.regions);
     }
 
@@ -118,7 +119,8 @@ returns-after-loop-p-clause-words c =
     let a : ℕ = start_of image c.args.first in
     let low = c.references_in_part.ensures.0 in
     let start = c.part_start.ensures in
-    let last : a + c.loop-p.p ≡ x + 1 + references_of (moved_word image x) = omega (arith, c.loop-p.auto.p, c.loop-p.invariant.end, c.loop-p-test.false) in
+    let most = c.loop-p.auto.p-end (omega arith) in
+    let last : a + c.loop-p.p ≡ x + 1 + references_in image.layout (moved_word image x) = omega (arith, c.loop-p.auto.p, most, c.loop-p.invariant.end, c.loop-p-test.false) in
     c.loop-p.invariant.words
     ∙ ap (λ n. words_from image c.args.first n (late_up_to image d x (a + c.loop-p.p))) c.loop-p.auto.regions
     ∙ words_same image a (length c.args.regions.now * region_words image) (late_up_to image d x (a + c.loop-p.p)) (is_late_before image (d + 1)) (λ r l m.

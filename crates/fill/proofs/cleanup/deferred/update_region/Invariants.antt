@@ -1,7 +1,7 @@
 use Rattle.std.proofs.Common.{◌≡◌, ◌+◌, length}
 use Rattle.std.specs.List.{concat}
 use Rattle.object_heap.specs.HeapImage.{FormHeap, start_of}
-use Rattle.object_heap.specs.Header.{references_of}
+use Rattle.object_heap.specs.Layout.{references_in}
 use Rattle.summary.specs.Compaction.{moved_word}
 use Rattle.fill.specs.MovedHeap.{words_from}
 use Rattle.fill.proofs.Lemmas.Late.{late_up_to}
@@ -10,6 +10,6 @@ use Rattle.fill.proofs.cleanup.deferred.update_region.Given as goal
 abbrev pub invariant-loop-p : goal.invariant-loop-p
 invariant-loop-p l = record {
   heap : FormHeap l.plan.region_log l.regions;
-  end : l.p-end ≡ l.start + references_of (moved_word l.plan l.begin);
+  end : l.p-end ≡ l.start + references_in l.plan.layout (moved_word l.plan l.begin);
   words : concat l.regions ≡ words_from l.plan l.first (length l.regions) (late_up_to l.plan l.d l.begin (start_of l.plan l.first + l.p));
 }

@@ -2,6 +2,7 @@ use Rattle.std.proofs.Common.{◌≡◌, ◌+◌, ◌-◌, ◌*◌, ◌<◌, ℕ
 use Rattle.std.specs.List.{concat}
 use Rattle.std.proofs.lemmas.Bool.{ltb-true}
 use Rattle.object_heap.specs.Header.{references_of}
+use Rattle.object_heap.specs.Layout.{references_in}
 use Rattle.object_heap.specs.HeapImage.{HeapImage, FormHeap, region_words, start_of}
 use Rattle.summary.specs.Compaction.{moved_word}
 use Rattle.fill.specs.MovedHeap.{is_late_before, IsCut}
@@ -51,7 +52,7 @@ returns-in-Some c = λ h.
     let is : c.word.result ≡ moved_word image x = c.word.ensures ∙ ap (λ ws. get_or ws k 0) words
     ∙ words_not image a (count * region_words image) (is_late_before image first) k (omega arith) (ap (is_late_before image first) at ∙ c.requires.part.begins x low)
     ∙ ap (moved_word image) at in
-    let n : c.from.result ≡ references_of (moved_word image x) = c.from.ensures ∙ c.references-count.ensures ∙ ap references_of is in
+    let n : c.from.result ≡ references_in image.layout (moved_word image x) = c.from.ensures ∙ c.references-count.ensures ∙ ap references_of is ∙ sym (c.planned_image_is_own.ensures.references (moved_word image x)) in
     let next : first + (c.args.cut - 1) + 1 ≡ first + c.args.cut = omega arith in
     let end = c.part_start-in-Some.ensures in
     let less : x + c.from.result < c.part_start-in-Some.result = ltb-true (x + c.from.result) c.part_start-in-Some.result h in

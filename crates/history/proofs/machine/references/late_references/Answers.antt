@@ -19,7 +19,7 @@ set_after-requires c =
     let at : get_or c.live-a-items.result.now c.loop-a.a-index 0 ≡ a = ap (λ (xs : List ℕ). get_or xs c.loop-a.a-index 0) same in
     let fits = c.new_words_fit.ensures image valid a (contains_at image valid c.loop-a.a-index inside) in
     let begin : c.new_address-begin.result ≡ new_address image a = c.new_address-begin.ensures ∙ (ap (λ (i : HeapImage). new_address i (get_or c.live-a-items.result.now c.loop-a.a-index 0)) c.requires.plan ∙ ap (new_address image) at) in
-    let count : c.references.result ≡ references_at image a = c.references.ensures ∙ ap references_of (c.word-header.ensures ∙ ap (word_at image) at) in
+    let count : c.references.result ≡ references_at image a = c.references.ensures ∙ ap references_of (c.word-header.ensures ∙ ap (word_at image) at) ∙ sym (c.image_is_own.ensures.references (word_at image a)) in
     let long : length c.deref_mut.result.now ≡ heap_words image = ap (length {A = Bool}) c.deref_mut.ensures.value ∙ c.loop-a.invariant.all in
     omega (arith, fits.1, fits.3)
 
@@ -35,7 +35,7 @@ loop-a-preserved c =
     elim c.if-is_deferred.branch [
       | then-is_deferred w ↦
           let begin : w.new_address-begin.result ≡ new_address image a = w.new_address-begin.ensures ∙ (ap (λ (i : HeapImage). new_address i (get_or c.live-a-items.result.now c.loop-a.a-index 0)) c.requires.plan ∙ ap (new_address image) at) in
-          let count : w.references.result ≡ references_at image a = w.references.ensures ∙ ap references_of (c.word-header.ensures ∙ ap (word_at image) at) in
+          let count : w.references.result ≡ references_at image a = w.references.ensures ∙ ap references_of (c.word-header.ensures ∙ ap (word_at image) at) ∙ sym (c.image_is_own.ensures.references (word_at image a)) in
           let set : AreSet c.loop-a.flags.items w.set_after.new.flags w.new_address-begin.result (w.new_address-begin.result + w.references.result) =
           subst (λ (xs : List Bool). AreSet xs w.set_after.new.flags w.new_address-begin.result (w.new_address-begin.result + w.references.result)) w.deref_mut.ensures.value w.set_after.ensures in
           let long : length w.set_after.new.flags ≡ c.loop-a.flags.len = omega (arith, set.all, c.loop-a.flags.ok.0) in

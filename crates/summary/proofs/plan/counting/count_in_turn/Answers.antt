@@ -3,7 +3,7 @@ use Rattle.std.proofs.lemmas.List.FromFn.{map-range_with_len_more}
 use Rattle.std.specs.Prelude.{map}
 use Rattle.std.specs.List.{range_with_len}
 use Rattle.object_heap.specs.HeapImage.{region_count}
-use Rattle.summary.specs.Layout.{region_counts}
+use Rattle.summary.specs.RegionPlaces.{region_counts}
 use Rattle.summary.proofs.plan.counting.count_in_turn.Goals as goal
 
 pub loop-r-preserved : goal.loop-r-preserved

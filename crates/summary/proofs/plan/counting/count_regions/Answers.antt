@@ -5,7 +5,7 @@ use Rattle.object_heap.specs.HeapImage.{region_count}
 use Rattle.rayon.specs.Numbers.{nat_range}
 use Rattle.rayon.proofs.ListFacts.{IfOk-then}
 use Rattle.rayon.proofs.ToStd.{nat_range-All}
-use Rattle.summary.specs.Layout.{region_counts, AreOwnStarts}
+use Rattle.summary.specs.RegionPlaces.{region_counts, AreOwnStarts}
 use Rattle.summary.proofs.plan.counting.count_regions.Goals as goal
 
 pub collect-requires-clause-ready : goal.collect-requires-clause-ready

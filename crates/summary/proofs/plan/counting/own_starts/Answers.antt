@@ -4,7 +4,7 @@ use Rattle.std.proofs.lemmas.Nat.{mul-le}
 use Rattle.std.specs.Prelude.{IsTrue}
 use Rattle.object_heap.specs.HeapImage.{heap_words, region_words, region_count, start_of}
 use Rattle.mark_bitmap.specs.Marks.{is_begin}
-use Rattle.summary.specs.Layout.{IsOwnStart}
+use Rattle.summary.specs.RegionPlaces.{IsOwnStart}
 use Rattle.summary.proofs.Lemmas.Blocks.{region_in_heap}
 use Rattle.summary.proofs.Lemmas.OwnStarts.{own_start-cut, each_more}
 use Rattle.summary.proofs.plan.counting.own_starts.Goals as goal

@@ -2,7 +2,7 @@ use Rattle.std.proofs.Common.{◌≡◌, ℕ, ◌-◌, ◌<◌, ◌≤◌, lengt
 use Rattle.std.specs.Prelude.{IsTrue}
 use Rattle.object_heap.specs.HeapImage.{heap_words, start_of}
 use Rattle.mark_bitmap.specs.Marks.{is_begin}
-use Rattle.summary.specs.Layout.{IsOwnStart}
+use Rattle.summary.specs.RegionPlaces.{IsOwnStart}
 use Rattle.summary.proofs.plan.counting.own_starts.Given as goal
 
 -- from the start of the region before on, no object begins below `begin`

@@ -5,7 +5,7 @@ use Rattle.object_heap.specs.HeapImage.{region_words}
 use Rattle.summary.specs.RegionData.{destination, data_words}
 use Rattle.summary.specs.Sources.{StartsOnly}
 use Rattle.summary.specs.declared.region_data.RegionData.{RegionData}
-use Rattle.summary.proofs.Lemmas.Layouts.{data-le}
+use Rattle.summary.proofs.Lemmas.RegionPlaces.{data-le}
 use Rattle.summary.proofs.Lemmas.Regions.{region_some}
 use Rattle.summary.proofs.Lemmas.Telling.{destination-le, starts-only, starts-none}
 use Rattle.summary.proofs.plan.sources.started_by.Goals as goal

@@ -18,4 +18,4 @@ returns c =
     let place : ℕ = c.new_address-place.result in
     let next : c.args.i ≡ i + 1 = omega (arith, c.if-i-eq0.false) in
     let is = place_of image c.plan.result.now items i place (c.plan.ensures ∙ c.args.self.now.survey_of) c.live.ensures.value c.new_address-place.ensures in
-    end_of_place image items i place c.object_words.result c.live.ensures.value is c.object_words.ensures ∙ sym (behind-next (new_ends image) i c.args.i next)
+    end_of_place image items i place c.size_at.result c.live.ensures.value is c.size_at.ensures.value ∙ sym (behind-next (new_ends image) i c.args.i next)

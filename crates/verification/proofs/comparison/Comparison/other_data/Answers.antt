@@ -39,13 +39,13 @@ returns-in_err-j c =
     let after : HeapImage = c.args.self.now.after.now in
     let a : ℕ = c.args.a in
     let place : ℕ = c.args.place in
-    let done : ℕ = 1 + c.object_references-done.result in
+    let done : ℕ = 1 + c.references_at-done.result in
     subst (λ (r : Option ℕ). MatchOption r (AreCompacted before after (place + 1 + references_at before a) (place + size_at before a)) (IsFirstOther before after (place + 1 + references_at before a) (place + size_at before a))) (sym c.from_residual.ensures)
-    (alike before after a place done c.object_words.result (c.object_words.result - done) c.requires (ap (λ n. 1 + n) c.object_references-done.ensures) c.object_words.ensures refl c.in_err-j.ensures)
+    (alike before after a place done c.size_at.result (c.size_at.result - done) c.requires (ap (λ n. 1 + n) c.references_at-done.ensures.value) c.size_at.ensures.value refl c.in_err-j.ensures)
 
 pub returns : goal.returns
 returns c =
     let before : HeapImage = c.args.self.now.before.now in
     let after : HeapImage = c.args.self.now.after.now in
-    let done : ℕ = 1 + c.object_references-done.result in
-    first before after c.args.a c.args.place done c.object_words.result (c.object_words.result - done) c.requires (ap (λ n. 1 + n) c.object_references-done.ensures) c.object_words.ensures refl c.in_ok-j.j c.in_ok-j.ensures
+    let done : ℕ = 1 + c.references_at-done.result in
+    first before after c.args.a c.args.place done c.size_at.result (c.size_at.result - done) c.requires (ap (λ n. 1 + n) c.references_at-done.ensures.value) c.size_at.ensures.value refl c.in_ok-j.j c.in_ok-j.ensures

@@ -14,6 +14,6 @@ loop-j-preserved c =
     let a : ℕ = c.args.a in
     let place : ℕ = c.args.place in
     let j : ℕ = c.loop-j.j in
-    let wanted = data_word before a place c.object_references-j.result c.object_words-j-end.result j c.requires.placed c.object_references-j.ensures c.object_words-j-end.ensures c.loop-j.auto.j c.loop-j-test.true ∙ sym c.word.ensures in
+    let wanted = data_word before a place c.references_at-j.result c.size_at-j-end.result j c.requires.placed c.references_at-j.ensures.value c.size_at-j-end.ensures.value c.loop-j.auto.j c.loop-j-test.true ∙ sym c.word.ensures in
     tally_to (place + j + 1) (place + (j + 1)) (omega arith)
     (c.in_ok-compare.ensures.tally (word_at (compact before)) (word_at after) wanted (sym c.word-in-loop-j.ensures) c.loop-j.invariant)

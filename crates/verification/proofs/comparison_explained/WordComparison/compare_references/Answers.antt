@@ -15,7 +15,7 @@ loop-f-preserved c =
     let a : ℕ = c.args.a in
     let place : ℕ = c.args.place in
     let f : ℕ = c.loop-f.f in
-    let l : f < references_at before a = subst (λ n. f < n) c.object_references-f-end.ensures c.loop-f-test.true in
+    let l : f < references_at before a = subst (λ n. f < n) c.references_at-f-end.ensures.value c.loop-f-test.true in
     let wanted : word_at (compact before) (place + 1 + f) ≡ c.redirected-expected.result =
     reference_word before a place c.requires.placed f l ∙ ap (redirected before) (sym c.word-reference.ensures) ∙ ap (λ (i : HeapImage). redirected i c.word-reference.result) (sym (c.plan.ensures ∙ c.args.self.now.survey_of)) ∙ sym c.redirected-expected.ensures in
     tally_to (place + 1 + f + 1) (place + 1 + (f + 1)) (omega arith)

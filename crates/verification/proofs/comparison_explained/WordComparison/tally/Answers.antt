@@ -55,8 +55,8 @@ loop-a-preserved c =
     let place : ℕ = c.new_address-place.result in
     let place_is = place_of image c.plan.result.now items i place (c.plan.ensures ∙ c.args.self.now.survey_of) c.live-a-items.ensures.value c.new_address-place.ensures in
     record {
-      next = end_of_place image items i place c.object_words.result c.live-a-items.ensures.value place_is c.object_words.ensures ∙ sym (behind-next (place_end image) i (i + 1) refl);
-      tally = tally_to (place + size_at image (get_or items i 0)) (place + c.object_words.result) (ap (λ n. place + n) (sym c.object_words.ensures)) c.in_ok-compare_object.ensures;
+      next = end_of_place image items i place c.size_at.result c.live-a-items.ensures.value place_is c.size_at.ensures.value ∙ sym (behind-next (place_end image) i (i + 1) refl);
+      tally = tally_to (place + size_at image (get_or items i 0)) (place + c.size_at.result) (ap (λ n. place + n) (sym c.size_at.ensures.value)) c.in_ok-compare_object.ensures;
     }
 
 all_read : (items : List ℕ) (live : List ℕ) (i : ℕ) → items ≡ live → i ≤ length items → length items ≤ i → i ≡ length live

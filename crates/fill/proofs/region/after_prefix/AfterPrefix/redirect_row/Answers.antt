@@ -50,7 +50,7 @@ module _ (c : After-from) where
   found = object-at c.plan_laws.ensures image sound at (omega (arith, low, c.args.self.now.site.start, c.args.self.now.after_prefix)) below.0 c.loop-at.invariant.between
 
   size_is : (a : ℕ) → IsMovedTo image at a → c.from.result ≡ size_at image a
-  size_is a on = header-size c.plan_laws.ensures image sound a start at c.get-header.result c.from.result c.loop-at.target.words on low (omega (arith, whole, below.1)) c.loop-at.invariant.split c.get-header.ensures (c.from.ensures ∙ c.size.ensures)
+  size_is a on = header-size c.plan_laws.ensures image sound c.image_is_own.ensures a start at c.get-header.result c.from.result c.loop-at.target.words on low (omega (arith, whole, below.1)) c.loop-at.invariant.split c.get-header.ensures (c.from.ensures ∙ c.size.ensures)
 
   behind_object : new_address image found.0 + size_at image found.0 ≡ at + c.from.result
   behind_object = let goes = found.1.place in let size = size_is found.0 found.1 in omega arith

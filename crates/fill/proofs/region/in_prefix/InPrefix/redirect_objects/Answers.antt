@@ -89,7 +89,7 @@ redirect_object-requires-clause-object c =
     let site = c.args.self.now.site in
     let image : HeapImage = site.guide.now in
     let size_is = λ (b : ℕ) (is : IsMovedTo image c.in-Some.a b). (
-    header-size c.plan_laws.ensures image (sound at) b site.span.start c.in-Some.a c.get-header.result c.from-words.result c.loop-a.target.words is (low at) (omega (arith, whole at, c.in-Some.ensures.below)) (on at).0 c.get-header.ensures (c.from-words.ensures ∙ c.size.ensures)) in
+    header-size c.plan_laws.ensures image (sound at) c.image_is_own.ensures b site.span.start c.in-Some.a c.get-header.result c.from-words.result c.loop-a.target.words is (low at) (omega (arith, whole at, c.in-Some.ensures.below)) (on at).0 c.get-header.ensures (c.from-words.ensures ∙ c.size.ensures)) in
     let fits : c.in-Some.a + c.from-words.result ≤ site.span.end = c.if-a-words.true in
     record {
       object = (c.in-Some.a, record { object = (next at).object; place = goes at });
@@ -113,7 +113,7 @@ pub loop-a-smaller : goal.loop-a-smaller
 loop-a-smaller c =
     let at = (goal.at.loop-a-smaller c).In-Some in
     let image : HeapImage = c.args.self.now.site.guide.now in
-    let size : c.from-words.result ≡ size_at image c.in-Some.a = c.from-words.ensures ∙ c.size.ensures ∙ ap size_of (c.get-header.ensures ∙ (on at).1) in
+    let size : c.from-words.result ≡ size_at image c.in-Some.a = c.from-words.ensures ∙ c.size.ensures ∙ ap size_of (c.get-header.ensures ∙ (on at).1) ∙ sym (c.image_is_own.ensures.sizes (word_at image c.in-Some.a)) in
     let sizes = object_size c.plan_laws.ensures image (sound at) c.in-Some.a (next at).object in
     let some : 0 < size_at image c.in-Some.a = sizes.0 in
     let end : end_of image c.in-Some.a ≤ heap_words image = sizes.1 in
@@ -131,7 +131,7 @@ loop-a-preserved c =
     let h = c.loop-a.invariant in
     let under = low at in
     let object = (next at).object in
-    let size : c.from-words.result ≡ size_at image a = c.from-words.ensures ∙ c.size.ensures ∙ ap size_of (c.get-header.ensures ∙ (on at).1) in
+    let size : c.from-words.result ≡ size_at image a = c.from-words.ensures ∙ c.size.ensures ∙ ap size_of (c.get-header.ensures ∙ (on at).1) ∙ sym (c.image_is_own.ensures.sizes (word_at image c.in-Some.a)) in
     let sizes = object_size c.plan_laws.ensures image (sound at) a object in
     let fits : end_of image a ≤ heap_words image = sizes.1 in
     let end : a + c.from-words.result ≡ end_of image a = ap (λ n. a + n) size in

@@ -2,8 +2,8 @@ use Rattle.std.proofs.Common.{◌≡◌, ◌+◌, ◌-◌, ◌≤◌, ◌<◌, �
 use Rattle.std.proofs.lemmas.List.{get_or_default}
 use Rattle.raw_region.specs.Region.{with_words, part}
 use Rattle.object_heap.specs.Header.{references_of}
-use Rattle.object_heap.specs.HeapImage.{HeapImage, HasLiveList, references_at, reference_at, size_at, region_words, is_null_or_live}
-use Rattle.summary.specs.Compaction.{moved_word, redirected}
+use Rattle.object_heap.specs.HeapImage.{HeapImage, HasLiveList, word_at, references_at, size_at, region_words, is_null_or_live}
+use Rattle.summary.specs.Compaction.{moved_word, redirected, redirected_word}
 use Rattle.fill.specs.WordBlocks.{IsSplitAt}
 use Rattle.fill.specs.CopiedWords.{copied_word}
 use Rattle.fill.specs.Objects.{IsMovedTo}
@@ -51,6 +51,7 @@ module _ (c : After-references-count) where
       let end = fits a on in
       c.references-count.ensures
       ∙ ap references_of (c.get.ensures ∙ header-read c.plan_laws.ensures image sound a c.args.self.now.span.start c.args.at words on.object on.place c.requires.low (omega arith) c.requires.split)
+      ∙ sym (c.image_is_own.ensures.references (word_at image a))
 
   inside : first + 1 + c.references-count.result ≤ length words
   inside =
@@ -78,11 +79,11 @@ redirect-requires-clause-sound c = λ f d l.
     let on : IsMovedTo g c.args.at a = c.requires.object.object.1 in
     let few : f < n = omega (arith, l, length-part xs (first read + 1) n (inside read)) in
     let more : f < references_at g a = omega (arith, count read a on) in
-    let word : get_or (part xs (first read + 1) n) f d ≡ reference_at g a f =
+    let word : get_or (part xs (first read + 1) n) f d ≡ word_at g (a + 1 + f) =
     get_or_default (part xs (first read + 1) n) f d 0 l ∙ get_or-part xs (first read + 1) n f few
     ∙ reference-read c.plan_laws.ensures g (sound read) a f c.args.self.now.span.start c.args.at xs on.object (c.requires.object.early a on) on.place c.requires.low (fits read a on) more c.requires.split in
     subst (λ (m : HeapImage). is_null_or_live m (get_or (part xs (first read + 1) n) f d) ≡ true) (sym c.requires.target.image)
-    (subst (λ (w : ℕ). is_null_or_live g w ≡ true) (sym word) (reference-sound c.plan_laws.ensures g (sound read) a f on.object more))
+    (subst (λ (w : ℕ). is_null_or_live g w ≡ true) (c.image_is_own.ensures.leads (word_at g (a + 1 + f)) ∙ sym word) (reference-sound c.plan_laws.ensures g (sound read) a f on.object more))
 
 pub returns : goal.returns
 returns c =
@@ -94,10 +95,11 @@ returns c =
     record {
       same = target_kept g c.args.target.now c.redirect.new.self (with_words xs from (map (redirected c.args.target.now.image) (part xs from c.references-count.result))) c.requires.target c.redirect.ensures.value c.redirect.ensures.length;
       now = λ b is. (
-          let written : c.redirect.new.self.words ≡ with_words xs from (map (redirected g) (part xs from (references_at g b))) =
+          let written : c.redirect.new.self.words ≡ with_words xs from (map (redirected_word g) (part xs from (references_at g b))) =
           ap (λ t. t.words) c.redirect.ensures.value
           ∙ ap (λ (m : HeapImage). with_words xs from (map (redirected m) (part xs from c.references-count.result))) c.requires.target.image
-          ∙ ap (λ (n : ℕ). with_words xs from (map (redirected g) (part xs from n))) (count read b is) in
+          ∙ ap (λ (n : ℕ). with_words xs from (map (redirected g) (part xs from n))) (count read b is)
+          ∙ ap (with_words xs from) (sym (c.image_is_own.ensures.redirects_all (part xs from (references_at g b)))) in
           let row = object-row c.plan_laws.ensures g (sound read) b start c.args.at xs is.object (c.requires.object.early b is) is.place c.requires.low (fits read b is) c.requires.split in
           object-done c.plan_laws.ensures g (sound read) b start c.args.at c.redirect.new.self.words is.object is.place
           (subst (λ (ys : List ℕ). IsSplitAt (moved_word g) (copied_word g) start ys (c.args.at + 1 + references_at g b)) (sym written) row));

@@ -2,6 +2,7 @@ use Rattle.std.proofs.Common.{◌≡◌, ℕ, List, [], ◌∷◌, ◌++◌, ◌
 use Rattle.std.proofs.lemmas.List.FromFn.{map-range_with_len_more}
 use Rattle.std.specs.Prelude.{map, option_map}
 use Rattle.std.specs.List.{range_with_len}
+use Rattle.object_heap.specs.Layout.{Own}
 use Rattle.object_heap.specs.HeapImage.{HeapImage, IsValid, region_count}
 use Rattle.summary.specs.Compaction.{compacted_word}
 use Rattle.summary.specs.RegionData.{region_addresses}
@@ -21,14 +22,16 @@ pub into_image-requires : goal.into_image-requires
 into_image-requires c =
     let image : HeapImage = c.args.image.now in
     let valid = c.region_log.ensures.valid in
+    let own = subst (λ (i : HeapImage). i.layout ≡ Own) c.requires.image c.requires.kept.own.layout in
     let all : c.loop-r.r ≡ region_count image = let low = c.loop-r-test.false in let high = c.loop-r.auto.r-end in let is = c.regions-r-end.ensures.value in omega arith in
-    let parts = c.plan_laws.ensures.parts-of_blocks image c.version.result c.region_log.result c.allowance.result c.loop-r.r c.loop-r.regions.items c.in_ok-live.live.items (option_map (λ v. v.items) c.in_ok-roots.roots) valid.limits.whole_regions c.version.ensures.value c.region_log.ensures.value c.allowance.ensures c.loop-r.invariant all c.in_ok-live.ensures c.in_ok-roots.ensures in
+    let parts = c.plan_laws.ensures.parts-of_blocks image own c.version.result c.region_log.result c.allowance.result c.loop-r.r c.loop-r.regions.items c.in_ok-live.live.items (option_map (λ v. v.items) c.in_ok-roots.roots) valid.limits.whole_regions c.version.ensures.value c.region_log.ensures.value c.allowance.ensures c.loop-r.invariant all c.in_ok-live.ensures c.in_ok-roots.ensures in
     record { regions = parts.0; valid = subst IsValid (sym parts.1) (c.plan_laws.ensures.compact-IsValid image valid) }
 
 pub returns : goal.returns
 returns c =
     let image : HeapImage = c.args.image.now in
     let valid = c.region_log.ensures.valid in
+    let own = subst (λ (i : HeapImage). i.layout ≡ Own) c.requires.image c.requires.kept.own.layout in
     let all : c.loop-r.r ≡ region_count image = let low = c.loop-r-test.false in let high = c.loop-r.auto.r-end in let is = c.regions-r-end.ensures.value in omega arith in
-    let parts = c.plan_laws.ensures.parts-of_blocks image c.version.result c.region_log.result c.allowance.result c.loop-r.r c.loop-r.regions.items c.in_ok-live.live.items (option_map (λ v. v.items) c.in_ok-roots.roots) valid.limits.whole_regions c.version.ensures.value c.region_log.ensures.value c.allowance.ensures c.loop-r.invariant all c.in_ok-live.ensures c.in_ok-roots.ensures in
+    let parts = c.plan_laws.ensures.parts-of_blocks image own c.version.result c.region_log.result c.allowance.result c.loop-r.r c.loop-r.regions.items c.in_ok-live.live.items (option_map (λ v. v.items) c.in_ok-roots.roots) valid.limits.whole_regions c.version.ensures.value c.region_log.ensures.value c.allowance.ensures c.loop-r.invariant all c.in_ok-live.ensures c.in_ok-roots.ensures in
     c.into_image.ensures ∙ parts.1

@@ -3,8 +3,8 @@ use Rattle.std.specs.Prelude.{map}
 use Rattle.std.specs.List.{range_with_len}
 use Rattle.object_heap.specs.HeapImage.{start_of}
 use Rattle.summary.specs.RegionData.{destination}
-use Rattle.summary.specs.Layout.{placed_region}
-use Rattle.summary.proofs.plan.layout.Layout.of.Given as goal
+use Rattle.summary.specs.RegionPlaces.{placed_region}
+use Rattle.summary.proofs.plan.region_places.RegionPlaces.of.Given as goal
 
 abbrev pub invariant-loop-r : goal.invariant-loop-r
 invariant-loop-r l =

@@ -4,10 +4,10 @@ use Rattle.object_heap.specs.HeapImage.{region_words, heap_words, last_end}
 use Rattle.summary.specs.NewAddresses.{greatest, dead_words_below, is_allowed}
 use Rattle.summary.specs.RegionData.{data_words}
 use Rattle.summary.specs.declared.plan.region_counts.RegionCounts.{RegionCounts}
-use Rattle.summary.proofs.Lemmas.Layouts.{counts_length, counts_at, data-le, dead-next}
+use Rattle.summary.proofs.Lemmas.RegionPlaces.{counts_length, counts_at, data-le, dead-next}
 use Rattle.summary.proofs.Lemmas.Prefix.{greatest-le, prefix-allowed, prefix-refused}
-use Rattle.summary.proofs.plan.layout.prefix_end.Goals as goal
-use Rattle.summary.proofs.plan.layout.prefix_end.Goals.{then-dead-allowance, else-dead-allowance}
+use Rattle.summary.proofs.plan.region_places.prefix_end.Goals as goal
+use Rattle.summary.proofs.plan.region_places.prefix_end.Goals.{then-dead-allowance, else-dead-allowance}
 
 in_range : (r e n m heap : ℕ) → 0 < n → n ≡ m → r < e / n → e ≤ heap → r < heap / m
 in_range r e n m heap some is l h =

@@ -1,7 +1,7 @@
 use Rattle.std.proofs.Common.{◌≡◌, ◌*◌, ◌≤◌}
 use Rattle.object_heap.specs.HeapImage.{region_words}
 use Rattle.summary.specs.NewAddresses.{greatest, is_allowed, dead_words_below}
-use Rattle.summary.proofs.plan.layout.prefix_end.Given as goal
+use Rattle.summary.proofs.plan.region_places.prefix_end.Given as goal
 
 abbrev pub invariant-loop-r : goal.invariant-loop-r
 invariant-loop-r l =

@@ -7,14 +7,14 @@ use Rattle.std.specs.List.{range_with_len}
 use Rattle.object_heap.specs.HeapImage.{start_of, region_words, region_count, heap_words}
 use Rattle.summary.specs.NewAddresses.{prefix_end}
 use Rattle.summary.specs.RegionData.{destination, data_words}
-use Rattle.summary.specs.Layout.{placed_region}
+use Rattle.summary.specs.RegionPlaces.{placed_region}
 use Rattle.summary.specs.declared.plan.region_counts.RegionCounts.{RegionCounts}
 use Rattle.summary.specs.declared.region_data.RegionData.{RegionData}
 use Rattle.summary.proofs.Lemmas.Addresses.{prefix_end-le}
-use Rattle.summary.proofs.Lemmas.Layouts.{counts_length, counts_at, destination-low, destination-high, destination-step, destination-first, destination-none, destination-fits}
+use Rattle.summary.proofs.Lemmas.RegionPlaces.{counts_length, counts_at, destination-low, destination-high, destination-step, destination-first, destination-none, destination-fits}
 use Rattle.summary.proofs.Lemmas.Steps.{destination-top}
-use Rattle.summary.proofs.plan.layout.Layout.of.Goals as goal
-use Rattle.summary.proofs.plan.layout.Layout.of.Goals.{then-region-prefix, else-region-prefix}
+use Rattle.summary.proofs.plan.region_places.RegionPlaces.of.Goals as goal
+use Rattle.summary.proofs.plan.region_places.RegionPlaces.of.Goals.{then-region-prefix, else-region-prefix}
 
 pub placed-region-requires-clause-inside : goal.placed-region-requires-clause-inside
 placed-region-requires-clause-inside c =

@@ -4,8 +4,8 @@ use Rattle.object_heap.specs.HeapImage.{start_of}
 use Rattle.summary.specs.NewAddresses.{prefix_end}
 use Rattle.summary.specs.RegionData.{readers_from, data_words}
 use Rattle.summary.specs.declared.plan.region_counts.RegionCounts.{RegionCounts}
-use Rattle.summary.proofs.Lemmas.Layouts.{placed-prefix, placed-behind, destination-fits}
-use Rattle.summary.proofs.plan.layout.placed.Goals as goal
+use Rattle.summary.proofs.Lemmas.RegionPlaces.{placed-prefix, placed-behind, destination-fits}
+use Rattle.summary.proofs.plan.region_places.placed.Goals as goal
 
 pub readers-requires : goal.readers-requires
 readers-requires c =

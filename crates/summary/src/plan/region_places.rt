@@ -1,20 +1,20 @@
-//! `Layout`: where the words of each region go, from the counts of its live words.
+//! `RegionPlaces`: where the words of each region go, from the counts of its live words.
 
 ghost use Rattle.std.specs.Prelude.{◌≡◌, ◌+◌, ◌^◌, ◌<◌, ◌≤◌, IfOk};
 ghost use Rattle.object_heap.specs.HeapImage.{IsValid, heap_words, region_count, start_of, last_end};
 ghost use Rattle.summary.specs.NewAddresses.{prefix_end};
 ghost use Rattle.summary.specs.RegionData.{destination, readers_from};
-ghost use Rattle.summary.specs.Layout.{region_counts, placed_region, AreRegionCounts, IsLayout};
+ghost use Rattle.summary.specs.RegionPlaces.{region_counts, placed_region, AreRegionCounts, AreRegionPlaces};
 
 use super::region_counts::RegionCounts;
 use crate::region_data::RegionData;
 use crate::region_row::RegionRow;
-use heap_image::{Image, header};
+use heap_image::Image;
 use std::alloc::{AllocError, Global};
 
 /// Where the words of each region go, before the sources are known.
 #[derive(Drop)]
-pub struct Layout {
+pub struct RegionPlaces {
     /// The data of each region; no region has a source.
     pub regions: Vec<RegionRow>,
     /// The address at which the dense prefix ends.
@@ -23,11 +23,15 @@ pub struct Layout {
     pub new_top: u64,
 }
 
-impl Layout {
+impl RegionPlaces {
     /// Lays out an image from the counts of its regions.
-    pub fn of(alloc: Global, image: &Image, counts: &[RegionCounts]) -> Result<Layout, AllocError>
+    pub fn of(
+        alloc: Global,
+        image: &Image,
+        counts: &[RegionCounts],
+    ) -> Result<RegionPlaces, AllocError>
         requires { AreRegionCounts image.now counts.now }
-        ensures { IfOk result (λ layout. IsLayout image.now layout) }
+        ensures { IfOk result (λ places. AreRegionPlaces image.now places) }
     {
         let prefix = prefix_end(image, counts);
         let mut next = prefix;
@@ -39,7 +43,7 @@ impl Layout {
             }
             regions.push(RegionRow::without_source(region))?;
         }
-        Ok(Layout {
+        Ok(RegionPlaces {
             regions,
             prefix_end: prefix,
             new_top: next,
@@ -109,7 +113,7 @@ fn last_end(image: &Image) -> u64
     ensures inside { result ≤ heap_words image.now }
 {
     match image.live().last() {
-        Some(a) => *a + u64::from(header::size(image.word(*a))),
+        Some(a) => *a + image.size_at(*a),
         None => 0,
     }
 }

@@ -7,7 +7,7 @@ use Rattle.summary.specs.NewAddresses.{prefix_end, new_top}
 use Rattle.summary.specs.RegionData.{partial_words, own_words, region_data}
 use Rattle.summary.specs.declared.region_data.RegionData.{RegionData}
 use Rattle.summary.specs.declared.plan.region_counts.RegionCounts.{RegionCounts}
-use Rattle.summary.specs.declared.plan.layout.Layout.{Layout}
+use Rattle.summary.specs.declared.plan.region_places.RegionPlaces.{RegionPlaces}
 
 -- The own start of region r: the first address in it at which a live object begins, or its end if none does.
 pub record IsOwnStart (image : HeapImage) (r a : ℕ) : Type 0 where
@@ -34,7 +34,7 @@ module _ (image : HeapImage) where
   placed_region r = record (region_data image r) { source = None }
 
 -- the data of all regions without their sources, the prefix end and the new top
-pub record IsLayout (image : HeapImage) (layout : Layout) : Type 0 where
-  pub regions : layout.regions.items ≡ map (placed_region image) (range_with_len 0 (region_count image))
-  pub prefix : layout.prefix_end ≡ prefix_end image
-  pub top : layout.new_top ≡ new_top image
+pub record AreRegionPlaces (image : HeapImage) (places : RegionPlaces) : Type 0 where
+  pub regions : places.regions.items ≡ map (placed_region image) (range_with_len 0 (region_count image))
+  pub prefix : places.prefix_end ≡ prefix_end image
+  pub top : places.new_top ≡ new_top image

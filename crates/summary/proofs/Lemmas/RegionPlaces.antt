@@ -1,4 +1,4 @@
--- The layout of the regions by the counts of their live words.
+-- The places of the regions by the counts of their live words.
 use Rattle.std.proofs.Common.{◌≡◌, ℕ, ◌+◌, ◌-◌, ◌*◌, ◌/◌, ◌%◌, ◌≤◌, ◌<◌, inl, inr, List, length, get_or, sym, ◌∙◌, ap, arith, ltb}
 use Rattle.std.proofs.lemmas.Bool.{cases_lt, cond-true, cond-false, lt-ltb, le-ltb}
 use Rattle.std.proofs.lemmas.Nat.{div-add-mod', mul-le}
@@ -8,7 +8,7 @@ use Rattle.std.specs.Prelude.{None}
 use Rattle.object_heap.specs.HeapImage.{HeapImage, IsValid, region_words, heap_words, region_count, start_of}
 use Rattle.summary.specs.NewAddresses.{dead_words_below, prefix_end}
 use Rattle.summary.specs.RegionData.{partial_words, own_words, data_words, destination, readers_from}
-use Rattle.summary.specs.Layout.{region_counts, placed_region, AreRegionCounts}
+use Rattle.summary.specs.RegionPlaces.{region_counts, placed_region, AreRegionCounts}
 use Rattle.summary.specs.declared.plan.region_counts.RegionCounts.{RegionCounts}
 use Rattle.summary.proofs.Lemmas.Blocks.{region_in_heap}
 use Rattle.summary.proofs.Lemmas.Destinations.{destination-live_words}
