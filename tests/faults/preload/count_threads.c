@@ -1,9 +1,11 @@
 // Preloaded into a program, notes in order when it starts a thread, and what shows in which phase it does: a letter each for
 // a thread (t), a read (r), one that finds the end (e), a positioned read (p) and a write (w). At exit file descriptor 3 gets
-// the letters.
+// the letters. Where THREADS is set, only so many are started.
 #define _GNU_SOURCE
 #include <dlfcn.h>
+#include <errno.h>
 #include <pthread.h>
+#include <stdlib.h>
 
 #include "at_exit.h"
 
@@ -25,6 +27,11 @@ int pthread_create(pthread_t *thread, const pthread_attr_t *attributes, void *(*
         next = (int (*)(pthread_t *, const pthread_attr_t *, void *(*)(void *), void *))dlsym(RTLD_NEXT, "pthread_create");
     }
     note('t');
+    static long started;
+    const char *most = getenv("THREADS");
+    if (most && __atomic_fetch_add(&started, 1, __ATOMIC_RELAXED) >= atol(most)) {
+        return EAGAIN;
+    }
     return next(thread, attributes, start, argument);
 }
 

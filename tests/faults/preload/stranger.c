@@ -4,9 +4,11 @@
 //
 // The environment has it do more. With SWAPPED a link to that file takes the name of the first such file as soon as that is
 // made: what a stranger may do who can write in the folder. With FAILS the calls that this names fail: `sync`, `rename`,
-// `owner`, `mode`, `empty`, `stat`; with `none` a write to a file takes no byte. With MEANWHILE that command runs before the first
-// write to a file. With HELD so many MiB of memory are asked for, touched and given back before the program begins. With AGAIN
-// that file is opened in place of the file `dump` where that is opened for a second time.
+// `owner`, `mode`, `empty`, `stat`, `lock`, `write`, with the number ERROR or else EIO; with `none` a write to a file takes no
+// byte. With MEANWHILE that command runs before the first write to a file. With HELD so many MiB of memory are asked for, touched
+// and given back before the program begins. With AGAIN that file is opened in place of the file `dump` where that is opened for a
+// second time. With RENEWED an empty file takes the place of that one as soon as a file that was there before is to be locked:
+// what two other calls do, one that removes it and one that makes it.
 #define _GNU_SOURCE
 #include <dlfcn.h>
 #include <errno.h>
@@ -15,6 +17,7 @@
 #include <stdio.h>
 #include <stdlib.h>
 #include <string.h>
+#include <sys/file.h>
 #include <sys/mman.h>
 #include <sys/stat.h>
 #include <unistd.h>
@@ -51,7 +54,8 @@ static int is_made(int file) {
 
 static int fails(const char *call) {
     const char *chosen = getenv("FAILS");
-    errno = EIO;
+    const char *error = getenv("ERROR");
+    errno = error ? atoi(error) : EIO;
     return chosen && strcmp(chosen, call) == 0;
 }
 
@@ -109,6 +113,9 @@ ssize_t write(int file, const void *bytes, size_t size) {
         if (fails("none")) {
             return 0;
         }
+        if (fails("write")) {
+            return -1;
+        }
     }
     if (is_made(file) && mode_of(file) != told_mode) {
         told_mode = mode_of(file);
@@ -150,6 +157,22 @@ int statx(int folder, const char *name, int flags, unsigned mask, struct statx *
     NEXT(statx)
     int is_systems_own = folder >= 0 && folder < FILES && is_systems[folder];
     return !is_systems_own && fails("stat") ? -1 : next(folder, name, flags, mask, told);
+}
+
+static void renew(const char *name) {
+    int other = unlink(name) ? -1 : openat(AT_FDCWD, name, O_WRONLY | O_CREAT | O_EXCL, 0644);
+    if (other < 0 || close(other)) {
+        dprintf(3, "not renewed\n");
+    }
+}
+
+int flock(int file, int how) {
+    NEXT(flock)
+    const char *renewed = getenv("RENEWED");
+    if (renewed && !is_made(file)) {
+        renew(renewed);
+    }
+    return fails("lock") ? -1 : next(file, how);
 }
 
 int rename(const char *from, const char *to) {

@@ -53,7 +53,7 @@ pub fn record<G: Gate + Sync, T: Threads + Sync, W: Wait + Sync>(
         Ok(prepared) => prepared,
         Err((image, fault)) => return Err(Refusal::Kept(image, fault)),
     };
-    let start = StartLine::awaiting(workers as usize);
+    let start = StartLine::awaiting(workers);
     let ended = prepared.run(&start, gate, threads, wait)?;
     let worked = ended.clean_up(&hands)?;
     let schedule = whole_schedule(alloc, worked.desk, worked.survey.plan(), workers)?;

@@ -259,7 +259,7 @@ where
             start,
             stop,
         };
-        own.start.pass();
+        own.start.pass(own.wait);
         worker.end = own.fill_regions(number as u32, worker);
         if let Err(Halt::Failed(_)) = worker.end {
             own.stop.store(true, Ordering::SeqCst);
@@ -271,6 +271,10 @@ where
     } else {
         None
     };
+    if empty.is_none() {
+        // No thread can be started now, or no other is needed.
+        start.open_to_all();
+    }
     for_each_mut(threads, workers, count, &work);
     if let Some(empty) = empty {
         empty.join(threads);

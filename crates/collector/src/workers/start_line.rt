@@ -1,14 +1,17 @@
 //! The line from which the workers of a collection start.
 ghost use Rattle.std.specs.Prelude.{◌≡◌};
 
-use std::sync::atomic::{AtomicUsize, Ordering};
-use std::thread;
+use retry_policy::RetryPolicy;
+use std::sync::atomic::{AtomicU64, Ordering};
+use std::time::Duration;
 
-/// How often a worker looks whether the line is open before it yields the processor.
+/// How often a worker looks whether the line is open before it pauses: some microseconds.
 const LOOKS: u32 = 10_000;
 
-/// How often it does so at most: a wait in vain takes about ten milliseconds, if no other thread wants the processor.
-const MOST_YIELDS: u32 = 1_000;
+/// How often it pauses at most, and for how many milliseconds by a policy that waits: a tenth of a second in all.
+const PAUSES: u32 = 10;
+
+const PAUSE_MILLISECONDS: u64 = 10;
 
 /// A line at which workers wait until all have arrived, so that none does all the work on a small heap before the others
 /// begin.
@@ -18,9 +21,9 @@ const MOST_YIELDS: u32 = 1_000;
 #[derive(Drop)]
 pub(crate) struct StartLine {
     /// How many workers open it.
-    awaited: usize,
+    awaited: u64,
     /// How many have arrived.
-    arrived: AtomicUsize,
+    arrived: AtomicU64,
 }
 
 impl StartLine {
@@ -32,25 +35,39 @@ impl StartLine {
     }
 
     /// A line that opens once this many workers have arrived.
-    pub(crate) fn awaiting(workers: usize) -> StartLine
+    pub(crate) fn awaiting(workers: u32) -> StartLine
         ensures { result.awaited ≡ workers }
     {
         StartLine {
-            awaited: workers,
-            arrived: AtomicUsize::new(0),
+            awaited: u64::from(workers),
+            arrived: AtomicU64::new(0),
         }
     }
 
     /// Arrives, and waits until the line is open.
-    pub(crate) fn pass(&self) {
+    pub(crate) fn pass<W: RetryPolicy>(&self, wait: &W) {
         self.arrived.fetch_add(1, Ordering::SeqCst);
-        for _ in 0..MOST_YIELDS {
+        if self.is_open() {
+            return self.arrived.wake_all();
+        }
+        let pause = Duration::from_millis(PAUSE_MILLISECONDS);
+        for _ in 0..PAUSES {
             if self.opens() {
                 return;
             }
-            thread::yield_now();
+            let arrived = self.arrived.load(Ordering::SeqCst);
+            if self.awaited <= arrived {
+                return;
+            }
+            wait.pause_while(&self.arrived, arrived, pause);
         }
+        self.open_to_all();
+    }
+
+    /// Opens the line, whoever has arrived.
+    pub(crate) fn open_to_all(&self) {
         self.arrived.store(self.awaited, Ordering::SeqCst);
+        self.arrived.wake_all();
     }
 
     /// Looks whether it is open, some microseconds long.

@@ -13,8 +13,8 @@ all_new : {X : Type 0} (n : ℕ) (new old : List X) → length new ≡ n → tak
 all_new n new old e = ap (λ k. take k (new ++ drop (length new) old)) (sym e) ∙ take-append_seam new (drop (length new) old)
 
 -- two images alike in every part
-same_image : (x y : HeapImage) → x.version ≡ y.version → x.region_log ≡ y.region_log → x.allowance ≡ y.allowance → x.words ≡ y.words → x.live ≡ y.live → x.roots ≡ y.roots → x ≡ y
-same_image x y v a b c d e = λ i. record { version = v i; region_log = a i; allowance = b i; words = c i; live = d i; roots = e i }
+same_image : (x y : HeapImage) → x.layout ≡ y.layout → x.version ≡ y.version → x.region_log ≡ y.region_log → x.allowance ≡ y.allowance → x.words ≡ y.words → x.live ≡ y.live → x.roots ≡ y.roots → x ≡ y
+same_image x y l v a b c d e = λ i. record { version = v i; layout = l i; region_log = a i; allowance = b i; words = c i; live = d i; roots = e i }
 
 pub into_image-requires-clause-regions : goal.into_image-requires-clause-regions
 into_image-requires-clause-regions g c =
@@ -53,5 +53,6 @@ into_image-requires-clause-valid g c =
     (take n (cleared' ++ drop (length cleared') (take n (updated ++ drop (length updated) parts.regions.items))))
     (take parts.live.len (places ++ drop (length places) parts.live.items)) (option_map (λ v. v.items) c.redirected_roots.result) in
     let roots = subst (λ (i : HeapImage). option_map (λ v. v.items) c.redirected_roots.result ≡ option_map (map (redirected i)) i.roots) c.plan-plan.ensures c.redirected_roots.ensures in
-    let same : image ≡ compact plan = same_image image (compact plan) version log allowed words live roots in
-    subst IsValid (sym same) (c.compaction_is_valid.ensures plan (subst IsValid c.plan-plan.ensures c.planned_image_is_valid.ensures))
+    let valid = subst IsValid c.plan-plan.ensures c.planned_image_is_valid.ensures in
+    let same : image ≡ compact plan = same_image image (compact plan) (sym valid.own) version log allowed words live roots in
+    subst IsValid (sym same) (c.compaction_is_valid.ensures plan valid)
