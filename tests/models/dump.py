@@ -21,6 +21,8 @@ WIDEST_GAP = 512
 TEXT, LOADED = 0x01, 0x02
 PRIMITIVE_NAMES = {4: b"[Z", 5: b"[C", 6: b"[F", 7: b"[D", 8: b"[B", 9: b"[S", 10: b"[I", 11: b"[J"}
 CLASS_OF_CLASSES = b"java/lang/Class"
+# The most bytes of a name that a list shows.
+MOST_SHOWN = 500
 # The widest gap that counts as padding, in words.
 PADDING = {"array": 2, "class": 17, "instance": 1}
 
@@ -313,7 +315,9 @@ class Names:
         name = self.inner(key)
         if not name:
             return f"class@{self.ids[key[1]]:x}"
-        return "".join(chr(byte) if 0x20 < byte < 0x7F and byte != 0x5C else f"\\x{byte:02x}" for byte in name.replace(b"/", b"."))
+        mark = f"...@{self.ids[key[1]]:x}" if len(name) > MOST_SHOWN else ""
+        shown = name[:MOST_SHOWN].replace(b"/", b".")
+        return "".join(chr(byte) if 0x20 < byte < 0x7F and byte != 0x5C else f"\\x{byte:02x}" for byte in shown) + mark
 
     def kind(self, key: tuple[int, int]) -> str:
         name = self.inner(key)

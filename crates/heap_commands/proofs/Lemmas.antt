@@ -4,3 +4,4 @@ pub mod Texts
 pub mod Imports
 pub mod Upgrades
 pub mod Given
+pub mod Rows

@@ -1,12 +1,17 @@
 -- The list of the objects of an imported image.
-use Rattle.std.specs.Prelude.{ℕ, Bool, if◌then◌else◌, List, ◌++◌, flat_map, codes, decimal}
-use Rattle.heap_dump.specs.ClassNames.{name_of}
+use Rattle.std.specs.Prelude.{◌≡◌, ℕ, ◌*◌, ◌≤◌, Bool, if◌then◌else◌, List, ◌++◌, flat_map, length, codes, decimal}
+use Rattle.heap_dump.specs.ClassNames.{name_of, newlines}
 use Rattle.heap_dump.specs.declared.listing.class_names.ClassNames.{ClassNames}
 use Rattle.heap_dump.specs.declared.listing.ListedObject.{ListedObject}
 use Rattle.heap_commands.specs.Histogram.{bytes_of}
 
 abbrev pub state_of : Bool → List ℕ
 state_of is_live = if is_live then codes "live" else codes "dead"
+
+-- so many lines, which aren't long
+pub record HasRows (text : List ℕ) (count : ℕ) : Type 0 where
+  pub rows : newlines text ≡ count
+  pub short : length text ≤ 2068 * count
 
 module _ (names : ClassNames) where
   -- the line of an object: its address, its class, its bytes, and whether it is live

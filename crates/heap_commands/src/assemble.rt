@@ -4,9 +4,9 @@ ghost use Rattle.heap_text.specs.Text.{text_of};
 ghost use Rattle.heap_commands.specs.Assemble.{IsAssembly, IsCountLine, count_line};
 ghost use Rattle.command_support.specs.Failure.{failed_device};
 
-use command_files::{FileTarget, Late, SystemFile, WorkDone, output_must_differ, target_beside};
+use command_files::{Late, SystemFile, WorkDone, input_and_target};
 use command_line::Assemble;
-use command_support::{Failure, FileWord, Role, Trouble, Watched};
+use command_support::{Failure, FileWord, Role, Trouble};
 use heap_image::{Fault, FromRead, Image, Intake, Outlet, ToWrite, write_image_buffered};
 use heap_text::{AssembleError, assemble_from};
 use std::alloc::{AllocError, Global};
@@ -24,7 +24,9 @@ where
     R::File: SystemFile,
     ensures { IfOk result (λ done. IsCountLine done.text.items) }
 {
-    let (mut text, target) = open(rt, &request)?;
+    let text = FileWord::new(Role::Text, request.text);
+    let image = FileWord::new(Role::Image, request.image);
+    let (mut text, target) = input_and_target(rt, text, image, request.atomic)?;
     let mut late = Late::new(rt, target);
     let line = assemble_into(
         rt.alloc(),
@@ -35,24 +37,6 @@ where
         Ok(line) => late.ended(line),
         Err(failure) => Err(late.failed(Trouble::new(failure).if_text(&text))),
     }
-}
-
-/// The file of the text, open, and the file for the image.
-type TextAndImage<'a, F> = (Watched<'a, F>, FileTarget<'a, F>);
-
-/// Opens the file of the text, and finds the one for the image. They may be one file only with `--atomic`.
-fn open<'a, H: Files + AllocGlobal>(
-    host: &H,
-    request: &Assemble<'a>,
-) -> Result<TextAndImage<'a, H::File>, Trouble> {
-    let text = FileWord::new(Role::Text, request.text);
-    let image = FileWord::new(Role::Image, request.image);
-    if !request.atomic {
-        output_must_differ(host.alloc(), text, image)?;
-    }
-    let text = Watched::open(host, text)?;
-    let target = target_beside(host, &text, image, request.atomic)?;
-    Ok((text, target))
 }
 
 /// Reads the text of a heap line by line, and writes its image. Returns the line for standard output, with the

@@ -11,7 +11,7 @@ ghost use Rattle.command_support.specs.Failure.{failed_device};
 ghost use Rattle.command_support.specs.declared.failure.Failure.TheVariants.{Fault as OfFault, Later};
 
 use crate::shared::versions::version_numbered;
-use command_files::{SystemFile, WorkDone, ended, failed_between, image_and_out};
+use command_files::{Late, SystemFile, WorkDone, image_and_out};
 use command_line::Upgrade;
 use command_support::{Failure, Trouble, push_number, push_text};
 use heap_image::{
@@ -32,16 +32,17 @@ where
     R::File: SystemFile,
     ensures { IfOk result (λ done. IsRootCount done.text.items) }
 {
-    let (mut image, mut out) = image_and_out(rt, request.image, request.out, request.atomic)?;
+    let (mut image, target) = image_and_out(rt, request.image, request.out, request.atomic)?;
+    let mut late = Late::new(rt, target);
     let line = upgrade_into(
         rt.alloc(),
         &mut FromRead::new(&mut image),
-        &mut ToWrite::new(&mut out.file),
+        &mut ToWrite::new(&mut late),
         version_numbered(request.to),
     );
     match line {
-        Ok(line) => ended(rt, line, out),
-        Err(failure) => Err(failed_between(rt, Trouble::new(failure), &image, out)),
+        Ok(line) => late.ended(line),
+        Err(failure) => Err(late.failed(Trouble::new(failure).if_image(&image))),
     }
 }
 

@@ -4,3 +4,4 @@ pub mod Listings
 pub mod Sums
 pub mod Gaps
 pub mod Lookups
+pub mod Names

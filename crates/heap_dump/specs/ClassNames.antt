@@ -1,5 +1,5 @@
 -- The names of the classes in a list of objects.
-use Rattle.std.specs.Prelude.{ℕ, Bool, ◌-◌, ◌/◌, ◌%◌, false, ◌&&◌, ◌||◌, ◌==◌, nat_lt, nat_le, if◌then◌else◌, List, [], ◌∷◌, ◌++◌, flat_map, length, slice_get, slice_range, Option, None, Some, codes}
+use Rattle.std.specs.Prelude.{ℕ, Bool, ◌-◌, ◌/◌, ◌%◌, false, ◌&&◌, ◌||◌, ◌==◌, nat_lt, nat_le, if◌then◌else◌, List, [], ◌∷◌, ◌++◌, flat_map, length, take, slice_get, slice_range, Option, None, Some, codes, count_by}
 use Rattle.std.specs.Fmt.{digit_glyph, digits}
 use Rattle.heap_dump.specs.declared.listing.class_kind.ClassKind.{ClassKind}
 use Rattle.heap_dump.specs.declared.listing.class_kind.ClassKind.TheVariants.{Arrays, Classes, Instances}
@@ -35,15 +35,25 @@ inner_name names class =
     if nat_le class.start class.end && nat_le class.end (length names.bytes.items)
     then slice_range names.bytes.items class.start class.end else []
 
+-- a name of the class with this id: of more than 500 bytes the first 500, a mark, and the id
+abbrev pub cut_name : ℕ → List ℕ → List ℕ
+cut_name id name =
+    if nat_le (length name) 500 then flat_map shown_byte name
+    else flat_map shown_byte (take 500 name) ++ (codes "...@" ++ digits 16 false id)
+
 -- a class without a name is shown by its id
 abbrev pub shown_name : ClassNames → ℕ → Option NamedClass → List ℕ
 shown_name names number None = first_name number
 shown_name names number (Some class) =
-    if nat_lt class.start class.end then flat_map shown_byte (inner_name names class) else codes "class@" ++ digits 16 false class.id
+    if nat_lt class.start class.end then cut_name class.id (inner_name names class) else codes "class@" ++ digits 16 false class.id
 
 -- the name of the class with this number
 abbrev pub name_of : ClassNames → ℕ → List ℕ
 name_of names number = shown_name names number (class_of names number)
+
+-- how many lines a text ends
+abbrev pub newlines : List ℕ → ℕ
+newlines text = count_by (λ byte. byte == 10) text
 
 -- what the objects are of a class with this number
 abbrev pub kind_or : ℕ → Option NamedClass → ClassKind

@@ -1,5 +1,5 @@
 //! Imports a heap dump as an image.
-ghost use Rattle.std.specs.Prelude.{◌≡◌, true, IfOk, OnOk, IsTrue, ◌⊎◌};
+ghost use Rattle.std.specs.Prelude.{◌≡◌, true, IfOk, OnOk, IsTrue, ◌⊎◌, length};
 ghost use Rattle.std.specs.Io.KnownBytes.{IsAtEnd};
 ghost use Rattle.std.specs.List.Sorted.{IsStrictlyIncreasing};
 ghost use Rattle.object_heap.specs.HeapImage.{IsValid, roots_of};
@@ -20,7 +20,7 @@ use crate::totals::{ClassTotals, Totals, ranking};
 use crate::transcription::transcribed::Transcribed;
 use dump_objects::{Inventory, UnsealedHeap};
 use dump_records::ImportError;
-use heap_image::Intake;
+use heap_image::{Fault, Intake};
 use std::alloc::{AllocError, Global};
 
 /// Makes an image of a heap dump. The dump is read twice: `first` and `second` both give it from its beginning.
@@ -75,6 +75,7 @@ pub fn import_listed<R: Intake>(
     ensures figures { IfOk result (λ listed. AreFiguresOf listed.imported.image listed.imported.figures) }
     // Each object of the image once, by ascending addresses.
     ensures objects { IfOk result (λ listed. AreObjectsOf listed.imported.image listed.objects.items) }
+    ensures counted { IfOk result (λ listed. listed.imported.figures.objects ≡ length listed.objects.items) }
     ensures first_end { OnOk result (IsAtEnd (R.left first.new)) }
     ensures second_end { OnOk result (IsAtEnd (R.left second.new)) }
     ensures input { result ≡ Err ImportError.Input
@@ -83,6 +84,9 @@ pub fn import_listed<R: Intake>(
     let (imported, classes) = import_classed(alloc, first, second, options, true)?;
     let ObjectClasses { numbers, names } = classes;
     let objects = list_objects(alloc, &imported.image, numbers.as_slice())?;
+    if objects.len() as u64 != imported.figures.objects {
+        return Err(ImportError::NoHeap(Fault::Length));
+    }
     Ok(ListedImport {
         imported,
         objects,
@@ -164,8 +168,7 @@ fn whole_heap<R: Intake>(
     }
     let mut transcribed = Transcribed::of(alloc, &mut inventory, source, regions.log, true)?;
     inventory.objects.seal(&mut transcribed.heap)?;
-    let objects = inventory.objects.len() as u64;
-    Ok(transcribed.into_draft(inventory.into_roots(), objects))
+    Ok(transcribed.into_draft(inventory.into_roots()))
 }
 
 /// Builds the heap with the reachable objects of a dump, without gaps.
@@ -189,7 +192,7 @@ fn live_heap<R: Intake>(
     }
     let heap = UnsealedHeap::new(alloc, regions.log, words)?;
     transcribed.evacuate(heap, survivors.addresses.as_slice(), roots.as_mut_slice())?;
-    Ok(transcribed.into_draft(roots, survivors.addresses.len() as u64))
+    Ok(transcribed.into_draft(roots))
 }
 
 /// Returns the error for a dump with more words than the most. It names the words of the reachable objects, so the dump

@@ -1,16 +1,16 @@
 //! The objects of an imported image, one by one.
-ghost use Rattle.std.specs.Prelude.{◌≡◌, ◌≢◌, ◌<◌, ◌≤◌, ◌+◌, IfOk, OnOk, IsTrue};
-ghost use Rattle.object_heap.specs.HeapImage.{heap_words, size_at};
-ghost use Rattle.heap_dump.specs.Listing.{AreObjectsBefore, AreObjectsOf, IsNextLive};
+ghost use Rattle.std.specs.Prelude.{◌≡◌, ◌≢◌, ◌<◌, ◌≤◌, ◌+◌, ◌^◌, IfOk, OnOk, IsTrue, MatchOption};
+ghost use Rattle.object_heap.specs.HeapImage.{heap_words, word_at};
+ghost use Rattle.heap_dump.specs.Listing.{AreObjectsBefore, AreObjectsOf, IsNextLive, IsObjectAt};
 
 pub(crate) mod class_kind;
 pub(crate) mod class_names;
 pub(crate) mod class_number;
 pub(crate) mod object_classes;
+pub(crate) mod object_count;
 pub(crate) mod texts;
 
 use dump_records::ImportError;
-use heap_image::header::size;
 use heap_image::{Fault, Image};
 use std::alloc::Global;
 
@@ -68,15 +68,9 @@ impl ObjectList {
         ensures within { IfOk result (λ next. next ≤ heap_words image.now) }
         ensures no_device { result ≢ Err ImportError.Input }
     {
-        let end = image.len();
-        let header = image.word(at);
-        if header == 0 {
+        let Some(words) = words_of_object(image, at)? else {
             return Ok(at + 1);
-        }
-        let words = u64::from(size(header));
-        if words == 0 || words > end - at {
-            return Err(ImportError::NoHeap(Fault::Header(at)));
-        }
+        };
         self.push(image, classes, at, words)?;
         Ok(at + words)
     }
@@ -89,7 +83,7 @@ impl ObjectList {
         address: u64,
         words: u64,
     ) -> Result<(), ImportError>
-        requires size { words ≡ size_at image.now address }
+        requires object { IsObjectAt image.now address words }
         requires before { AreObjectsBefore image.now self.old.live address self.old.objects.items }
         ensures objects { OnOk result (AreObjectsBefore image.now self.new.live (address + words) self.new.objects.items) }
         ensures no_device { result ≢ Err ImportError.Input }
@@ -122,6 +116,24 @@ impl ObjectList {
         }
         Ok(objects)
     }
+}
+
+/// The number of words of the object at an address, if there is one.
+fn words_of_object(image: &Image, at: u64) -> Result<Option<u64>, ImportError>
+    requires inside { at < heap_words image.now }
+    ensures found { IfOk result (λ found. MatchOption found (word_at image.now at ≡ 0) (λ words. IsObjectAt image.now at words)) }
+    ensures small { heap_words image.now < 2 ^ 64 }
+    ensures no_device { result ≢ Err ImportError.Input }
+{
+    let end = image.len();
+    if image.word(at) == 0 {
+        return Ok(None);
+    }
+    let words = image.heap().size_at(at);
+    if words == 0 || words > end - at {
+        return Err(ImportError::NoHeap(Fault::Header(at)));
+    }
+    Ok(Some(words))
 }
 
 /// Whether the live address with this index is this one.

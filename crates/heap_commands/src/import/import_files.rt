@@ -97,13 +97,10 @@ where
     H::File: SystemFile,
 {
     let place = match list {
-        Some(list) => list.place_name(),
+        Some(list) => list.place_text(host.alloc())?,
         None => None,
     };
-    match place {
-        Some(name) => Ok(Late::apart(host, image, String::from_str(host.alloc(), name)?)),
-        None => Ok(Late::new(host, image)),
-    }
+    Ok(Late::new(host, image).apart(place))
 }
 
 /// The bytes that a pipe or a device gives, or the first of them if no dump begins so: a device may never end.

@@ -1,7 +1,7 @@
 //! The list of the objects of an imported image.
-ghost use Rattle.std.specs.Prelude.{◌≡◌, ◌++◌, ℕ, List, OnOk, string_bytes};
+ghost use Rattle.std.specs.Prelude.{◌≡◌, ◌++◌, ℕ, List, OnOk, length, string_bytes};
 ghost use Rattle.std.specs.Io.KnownBytes.{Appends};
-ghost use Rattle.heap_commands.specs.ObjectList.{list_text, object_line, state_of};
+ghost use Rattle.heap_commands.specs.ObjectList.{HasRows, list_text, object_line, state_of};
 
 use super::histogram::bytes_of;
 use heap_dump::{ClassNames, ListedImport, ListedObject};
@@ -28,8 +28,11 @@ pub fn give_list<O: Outlet>(
     room: String,
     output: &mut O,
 ) -> Result<(), Fault>
-    ensures { OnOk result (Appends (O.took output.old) (O.took output.new)
+    ensures list { OnOk result (Appends (O.took output.old) (O.took output.new)
         (list_text import.now.names import.now.objects.items)) }
+    // However long the names of the dump are, and whatever bytes they have.
+    ensures rows { OnOk result (HasRows (list_text import.now.names import.now.objects.items)
+        (length import.now.objects.items)) }
 {
     let mut lines = room;
     lines.clear();
@@ -60,7 +63,8 @@ fn push_object(
     object: &ListedObject,
     names: &ClassNames,
 ) -> Result<(), AllocError>
-    ensures { OnOk result (string_bytes lines.new ≡ string_bytes lines.old ++ object_line names.now object.now) }
+    ensures line { OnOk result (string_bytes lines.new ≡ string_bytes lines.old ++ object_line names.now object.now) }
+    ensures row { OnOk result (HasRows (object_line names.now object.now) 1) }
 {
     let address = object.address;
     write!(lines, "{address} ")?;

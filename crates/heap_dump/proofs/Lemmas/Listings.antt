@@ -1,18 +1,19 @@
 -- One object more in a list of objects.
-use Rattle.std.proofs.Common.{◌≡◌, ◌⊎◌, inl, inr, ℕ, ◌+◌, ◌<◌, ◌≤◌, true, false, cond, List, [], ◌∷◌, ◌++◌, length, refl, sym, ◌∙◌, ap, subst, arith}
+use Rattle.std.proofs.Common.{◌≡◌, ◌≢◌, ◌⊎◌, inl, inr, ℕ, ◌+◌, ◌<◌, ◌≤◌, true, false, cond, List, [], ◌∷◌, ◌++◌, length, refl, sym, ◌∙◌, ap, subst, arith}
 use Rattle.std.specs.Prelude.{map, filter, take}
 use Rattle.std.proofs.lemmas.Bool.{cases_lt}
-use Rattle.std.proofs.lemmas.List.{append-nil, get_or_append_left, get_or_push, length-append, map-append, take_more}
+use Rattle.std.proofs.lemmas.List.{append-nil, get_or_append_left, get_or_push, length-append, length_push, map-append, take_more}
 use Rattle.std.proofs.lemmas.List.Elements.{All-push, filter-append}
 use Rattle.std.proofs.lemmas.List.Quantifiers.{all_pairs_push}
 use Rattle.object_heap.specs.HeapImage.{HeapImage, size_at, word_at}
 use Rattle.heap_dump.specs.declared.listing.ListedObject.{ListedObject}
-use Rattle.heap_dump.specs.Listing.{AreObjectsBefore, IsNextLive, IsOutside, end_of_listed, live_addresses}
+use Rattle.heap_dump.specs.Listing.{AreObjectsBefore, HasObjectsBefore, IsNextLive, IsObjectAt, IsOutside, end_of_listed, live_addresses}
 
 module _ (image : HeapImage) where
   -- up to the next address, whose word is 0
   pub before_zero : (count end : ℕ) (objects : List ListedObject) → word_at image end ≡ 0 → AreObjectsBefore image count end objects → AreObjectsBefore image count (end + 1) objects
   before_zero count end objects zero h = record {
+    headers = h.headers;
     sizes = h.sizes;
     apart = h.apart;
     inside = λ k d l. let b = h.inside k d l in omega arith;
@@ -55,10 +56,11 @@ module _ (image : HeapImage) where
 
   -- with one object more, after which this many are live
   pub before_more : (count then : ℕ) (objects : List ListedObject) (object : ListedObject) → AreObjectsBefore image count object.address objects
-      → object.words ≡ size_at image object.address → take then image.live ≡ take count image.live ++ own object
+      → IsObjectAt image object.address object.words → take then image.live ≡ take count image.live ++ own object
       → AreObjectsBefore image then (object.address + object.words) (objects ++ object ∷ [])
-  before_more count then objects object h size live = record {
-    sizes = All-push (λ o. o.words ≡ size_at image o.address) objects object h.sizes size;
+  before_more count then objects object h at live = record {
+    headers = All-push (λ o. word_at image o.address ≢ 0) objects object h.headers at.header;
+    sizes = All-push (λ o. o.words ≡ size_at image o.address) objects object h.sizes at.size;
     apart = all_pairs_push (λ a b. end_of_listed a ≤ b.address) objects object h.apart (λ k d l. h.inside k d l);
     inside = All-push (λ o. end_of_listed o ≤ object.address + object.words) objects object (λ k d l. let b = h.inside k d l in omega arith) (omega arith);
     rest = rest_more object.address objects object refl h.rest;
@@ -84,3 +86,28 @@ module _ (image : HeapImage) where
     where
       shown : (object : ListedObject) → object.is_live ≡ false → own object ≡ []
       shown object dead = ap (λ b. map (λ o. o.address) (cond b (object ∷ []) [])) dead
+
+  -- a count, without and with one object more
+  pub count_zero : (live end count : ℕ) → word_at image end ≡ 0 → HasObjectsBefore image live end count → HasObjectsBefore image live (end + 1) count
+  count_zero live end count zero h = record { objects = h.objects; before = before_zero live end h.objects zero h.before; counted = h.counted }
+
+  count_more : (live then count : ℕ) (object : ListedObject) → IsObjectAt image object.address object.words
+      → take then image.live ≡ take live image.live ++ own object
+      → HasObjectsBefore image live object.address count → HasObjectsBefore image then (object.address + object.words) (count + 1)
+  count_more live then count object at more h = record {
+    objects = h.objects ++ object ∷ [];
+    before = before_more live then h.objects object h.before at more;
+    counted = length_push h.objects object ∙ ap (λ n. n + 1) h.counted;
+  }
+
+  pub count_live : (live a words count : ℕ) → IsObjectAt image a words → IsNextLive image live a
+      → HasObjectsBefore image live a count → HasObjectsBefore image (live + 1) (a + words) (count + 1)
+  count_live live a words count at next =
+      let object : ListedObject = record { address = a; words = words; class = 0; is_live = true } in
+      count_more live (live + 1) count object at (live_more live object refl next)
+
+  pub count_dead : (live a words count : ℕ) → IsObjectAt image a words
+      → HasObjectsBefore image live a count → HasObjectsBefore image live (a + words) (count + 1)
+  count_dead live a words count at =
+      let object : ListedObject = record { address = a; words = words; class = 0; is_live = false } in
+      count_more live live count object at (dead_more live object refl)

@@ -8,6 +8,7 @@ ghost use Rattle.heap_dump.specs.ImportFigures.{AreFiguresOf};
 use super::roots::roots_to;
 use crate::figures::ImportFigures;
 use crate::limits::words_within_limits;
+use crate::listing::object_count::count_objects;
 use crate::options::Regions;
 use dump_objects::UnsealedHeap;
 use dump_records::ImportError;
@@ -20,7 +21,6 @@ pub(crate) struct Draft {
     pub(crate) heap: UnsealedHeap,
     /// The addresses of the objects to which roots lead.
     pub(crate) roots: Vec<u64>,
-    pub(crate) objects: u64,
     /// How many gaps were dropped because they are too wide.
     pub(crate) dropped_gaps: u64,
     /// How many references and roots lead to objects that are missing from the dump.
@@ -58,7 +58,6 @@ impl Draft {
         let Draft {
             heap,
             roots,
-            objects,
             dropped_gaps,
             unresolved,
         } = self;
@@ -77,15 +76,6 @@ impl Draft {
             Err(Fault::Memory) => return Err(ImportError::Memory),
             Err(fault) => return Err(ImportError::NoHeap(fault)),
         };
-        let figures = ImportFigures {
-            words,
-            objects,
-            roots: roots.len() as u64,
-            live: live.len() as u64,
-            dead: objects.saturating_sub(live.len() as u64),
-            dropped_gaps,
-            unresolved,
-        };
         marked_parts_are_valid();
         let parts = ImageParts {
             version,
@@ -95,9 +85,30 @@ impl Draft {
             live,
             roots: Some(roots),
         };
-        Ok(Imported {
-            image: parts.into_image(),
-            figures,
-        })
+        let image = parts.into_image();
+        let figures = figures_of(&image, dropped_gaps, unresolved)?;
+        Ok(Imported { image, figures })
     }
+}
+
+/// The counts of an image, and two of its dump.
+fn figures_of(
+    image: &Image,
+    dropped_gaps: u64,
+    unresolved: u64,
+) -> Result<ImportFigures, ImportError>
+    ensures figures { IfOk result (λ figures. AreFiguresOf image.now figures) }
+    ensures no_device { result ≢ Err ImportError.Input }
+{
+    let objects = count_objects(image)?;
+    let live = image.live().len() as u64;
+    Ok(ImportFigures {
+        words: image.len(),
+        objects,
+        roots: image.roots().len() as u64,
+        live,
+        dead: objects.saturating_sub(live),
+        dropped_gaps,
+        unresolved,
+    })
 }

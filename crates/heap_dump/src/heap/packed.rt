@@ -6,7 +6,7 @@ use crate::transcription::transcribed::Transcribed;
 use dump_objects::{Inventory, Survivors};
 use dump_records::ImportError;
 use heap_image::Intake;
-use heap_image::limits::MAX_REGION_LOG;
+use heap_image::limits::MAX_REGION_LOG_V2;
 use std::alloc::Global;
 
 /// A heap of any size with all objects of a dump, without gaps, and its survivors.
@@ -33,7 +33,7 @@ impl Packed {
             alloc,
             &mut inventory,
             source,
-            MAX_REGION_LOG,
+            MAX_REGION_LOG_V2,
             false,
         )?;
         // The rest of the inventory is freed before more memory is allocated.

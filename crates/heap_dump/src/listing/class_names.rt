@@ -1,12 +1,18 @@
 //! The names of the classes in a list of objects.
-ghost use Rattle.std.specs.Prelude.{◌≡◌, ◌++◌, OnOk, string_bytes, option_copied, flat_map};
-ghost use Rattle.heap_dump.specs.ClassNames.{class_of, inner_name, is_shown, most_padding, name_of, shown_byte};
+ghost use Rattle.std.specs.Prelude.{◌≡◌, ◌≤◌, ◌++◌, OnOk, string_bytes, option_copied, flat_map, length};
+ghost use Rattle.heap_dump.specs.ClassNames.{class_of, cut_name, inner_name, is_shown, most_padding, name_of, newlines, shown_byte};
 
 use super::class_kind::ClassKind;
 use super::class_number::{FIRST_CLASS, first_name};
 use super::texts::Texts;
 use dump_objects::{CLASS_OBJECTS, Inventory};
 use std::alloc::{AllocError, Global};
+
+/// The most bytes of a name in the dump that are shown.
+const MOST_SHOWN: usize = 500;
+
+/// No name is shown with more bytes: each of these as `\xNN`, the mark, and 16 digits.
+const LONGEST: usize = 4 * MOST_SHOWN + 20;
 
 /// A class of the dump.
 #[derive(Clone, Copy)]
@@ -92,16 +98,22 @@ impl ClassNames {
         for class in self.classes.as_slice() {
             longest = longest.max(class.end.saturating_sub(class.start));
         }
-        longest.saturating_mul(4).max(32)
+        longest.saturating_mul(4).clamp(32, LONGEST)
     }
 
     /// Appends the name of the class with this number: with dots between packages, and each byte that is no visible
-    /// ASCII character, and `\`, as `\xNN`. A class without a name is `class@` and its id in hexadecimal digits.
+    /// ASCII character, and `\`, as `\xNN`. A class without a name is `class@` and its id in hexadecimal digits. Of a name
+    /// of more than 500 bytes the first 500 are followed by `...@` and that id.
+    #[tactic(auto, using(crate::proofs::Lemmas::Names::unnamed_short, crate::proofs::Lemmas::Names::unnamed_line, crate::proofs::Lemmas::Names::first_line))]
     pub fn push_name(&self, number: u32, line: &mut String) -> Result<(), AllocError>
-        ensures { OnOk result (string_bytes line.new ≡ string_bytes line.old ++ name_of self.now number) }
+        ensures name { OnOk result (string_bytes line.new ≡ string_bytes line.old ++ name_of self.now number) }
+        ensures short { OnOk result (length (name_of self.now number) ≤ 2020) }
+        ensures no_line { OnOk result (newlines (name_of self.now number) ≡ 0) }
     {
         match self.class(number) {
-            Some(class) if class.start < class.end => push_bytes(self.inner_name(class), line),
+            Some(class) if class.start < class.end => {
+                push_cut(self.inner_name(class), class.id, line)
+            }
             Some(class) => write!(line, "class@{:x}", class.id),
             None => line.push_str(first_name(number)),
         }
@@ -141,7 +153,21 @@ fn name_classes(classes: &mut [NamedClass], inventory: &Inventory, texts: &Texts
     }
 }
 
-/// Appends a name as a dump has it.
+/// Appends a name of the class with this id. Of a long name the first bytes are followed by a mark and the id.
+#[tactic(auto, using(crate::proofs::Lemmas::Names::cut_short, crate::proofs::Lemmas::Names::cut_line))]
+fn push_cut(name: &[u8], id: u64, line: &mut String) -> Result<(), AllocError>
+    ensures name { OnOk result (string_bytes line.new ≡ string_bytes line.old ++ cut_name id name.now) }
+    ensures short { OnOk result (length (cut_name id name.now) ≤ 2020) }
+    ensures no_line { OnOk result (newlines (cut_name id name.now) ≡ 0) }
+{
+    if name.len() <= MOST_SHOWN {
+        return push_bytes(name, line);
+    }
+    push_bytes(&name[..MOST_SHOWN], line)?;
+    write!(line, "...@{id:x}")
+}
+
+/// Appends the bytes of a name.
 fn push_bytes(name: &[u8], line: &mut String) -> Result<(), AllocError>
     ensures { OnOk result (string_bytes line.new ≡ string_bytes line.old ++ flat_map shown_byte name.now) }
 {

@@ -71,7 +71,7 @@ impl Transcribed {
     }
 
     /// The draft of an image of this heap, once its objects have their headers, and the classes of its objects.
-    pub(crate) fn into_draft(self, roots: Vec<u64>, objects: u64) -> (Draft, ObjectClasses) {
+    pub(crate) fn into_draft(self, roots: Vec<u64>) -> (Draft, ObjectClasses) {
         let Transcribed {
             heap,
             arrangement,
@@ -81,7 +81,6 @@ impl Transcribed {
         let draft = Draft {
             heap,
             roots,
-            objects,
             dropped_gaps: arrangement.dropped_gaps(),
             unresolved,
         };

@@ -9,7 +9,7 @@ returns-then-is_live-clause-objects c =
     let image = c.args.image.now in
     let list = c.args.self.now in
     let object : ListedObject = record { address = c.args.address; words = c.args.words; class = c.in-Some.class; is_live = c.is_next_live-is_live.result } in
-    let more = before_more image list.live (list.live + 1) list.objects.items object c.requires.before c.requires.size (live_more image list.live object c.if-is_live.true (c.if-is_live.ensures.next refl)) in
+    let more = before_more image list.live (list.live + 1) list.objects.items object c.requires.before c.requires.object (live_more image list.live object c.if-is_live.true (c.if-is_live.ensures.next refl)) in
     subst (λ xs. AreObjectsBefore image (list.live + 1) (c.args.address + c.args.words) xs) (sym c.in_ok-push.ensures.items) more
 
 pub returns-else-is_live-clause-objects : goal.returns-else-is_live-clause-objects
@@ -17,5 +17,5 @@ returns-else-is_live-clause-objects c =
     let image = c.args.image.now in
     let list = c.args.self.now in
     let object : ListedObject = record { address = c.args.address; words = c.args.words; class = c.in-Some.class; is_live = c.is_next_live-is_live.result } in
-    let more = before_more image list.live list.live list.objects.items object c.requires.before c.requires.size (dead_more image list.live object c.if-is_live.false) in
+    let more = before_more image list.live list.live list.objects.items object c.requires.before c.requires.object (dead_more image list.live object c.if-is_live.false) in
     subst (λ xs. AreObjectsBefore image list.live (c.args.address + c.args.words) xs) (sym c.in_ok-push.ensures.items) more

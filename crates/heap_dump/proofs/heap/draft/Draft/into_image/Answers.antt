@@ -7,8 +7,8 @@ use Rattle.heap_image.specs.ImageText.{from_tail, first_some, live_list_faults}
 use Rattle.heap_image.specs.Reading.{HasFittingNumbers}
 use Rattle.heap_dump.proofs.heap.draft.Draft.into_image.Goals as goal
 
-pub into_image-requires-clause-valid : goal.into_image-requires-clause-valid
-into_image-requires-clause-valid c =
+pub into_image-image-requires-clause-valid : goal.into_image-image-requires-clause-valid
+into_image-image-requires-clause-valid c =
     let log = c.into_parts-region_log.result.0 in
     let allowance = c.args.allowance in
     let blocks : List (List ℕ) = c.into_parts-region_log.result.1.items in
@@ -24,6 +24,7 @@ into_image-requires-clause-valid c =
     subst (λ l. Allows version l (length (concat blocks))) (sym log_is) (subst (λ n. Allows version c.args.requested.log n) same c.in_ok-version.ensures.allowed) in
     let few = c.in_ok-roots.ensures.few in
     let fits : HasFittingNumbers version image = record {
+      own = refl;
       limits = record {
         region_log_low = limits.region_log_low;
         region_log_high = limits.region_log_high;
