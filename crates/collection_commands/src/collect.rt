@@ -4,7 +4,7 @@ ghost use Rattle.collector.specs.Streams.{IsTextBegun, IsFirstOfBytes};
 ghost use Rattle.collection_commands.specs.Collect.{IsCollection};
 ghost use Rattle.collection_commands.specs.Figures.{IsFigures, figures_line};
 
-use crate::collection::{Run, collect_files};
+use crate::collection::{Run, collect_files, late_file};
 use crate::figures::{FiguresLine, LINE_ROOM, with_line};
 use crate::workers::Workers;
 use collector::{Gate, collect_stream};
@@ -29,6 +29,7 @@ where
 {
     let run = Run::start(rt, request.stats, request.workers);
     let (image, out) = image_and_out(rt, request.image, request.out, request.atomic)?;
+    let out = late_file(rt, out, None, image.regular_len())?;
     collect_files(rt, run, image.with_shape(request.shape), out, None)
 }
 

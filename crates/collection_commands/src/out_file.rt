@@ -1,42 +1,44 @@
 ghost use Rattle.std.specs.Prelude.{◌≡◌, ◌≤◌, IfOk, IfSome, Ok, length};
 
 use crate::figures::FiguresLine;
-use command_support::Watched;
+use command_files::{Late, SystemFile};
 use heap_image::{Failed, Fault, Outlet};
-use std::fs::OpenFile;
-use std::io::{Seek, Write};
+use std::io::Write;
+use std::rt::Files;
 
-/// The file that a collected image is written to. Its bytes are unknown to contracts.
+/// The file that a collected image is written to, begun with the first byte. Its bytes are unknown to contracts.
 ///
 /// In a regular file zeros are left out as holes, which take no room on the disk and read as zeros. To any other
 /// file, such as a pipe, each zero is written.
 #[derive(Drop)]
-pub struct OutFile<'a, 'f, F: Drop> {
-    watched: &'f mut Watched<'a, F>,
-    may_have_holes: bool,
+pub struct OutFile<'a, 'h, 'f, H: Files> {
+    file: &'f mut Late<'a, 'h, H>,
     failed: bool,
     /// The number of zeros left out after the last byte that was written.
     left_out: u64,
 }
 
-impl<'a, 'f, F: OpenFile + Write + Seek + Drop> OutFile<'a, 'f, F> {
+impl<'a, 'h, 'f, H: Files + AllocGlobal> OutFile<'a, 'h, 'f, H>
+where
+    H::File: SystemFile,
+{
     /// A file to which nothing is written yet.
-    pub fn new(watched: &'f mut Watched<'a, F>, may_have_holes: bool) -> OutFile<'a, 'f, F> {
+    pub fn new(file: &'f mut Late<'a, 'h, H>) -> OutFile<'a, 'h, 'f, H> {
         OutFile {
-            watched,
-            may_have_holes,
+            file,
             failed: false,
             left_out: 0,
         }
     }
 
-    /// Writes the zeros at the end that were left out, and passes on the outcome of a collection. Fault 13 if the file
-    /// fails.
+    /// Writes the zeros at the end that were left out, also where a collection failed once the image was whole, and
+    /// passes on the outcome. Fault 13 if the file fails.
     pub fn end(&mut self, outcome: Result<FiguresLine, Fault>) -> Result<FiguresLine, Fault>
         ensures { IfOk result (λ line. outcome ≡ Ok line) }
     {
+        let ended = if self.failed { None } else { self.write_hole() };
         let line = outcome?;
-        match self.write_hole() {
+        match ended {
             Some(()) => Ok(line),
             None => Err(Fault::Io),
         }
@@ -48,7 +50,7 @@ impl<'a, 'f, F: OpenFile + Write + Seek + Drop> OutFile<'a, 'f, F> {
         ensures kept { self.new.failed ≡ self.old.failed }
     {
         self.write_hole()?;
-        self.watched.write(bytes).ok()
+        self.file.write(bytes).ok()
     }
 
     /// Skips the zeros that were left out but for the last, which is written, so that the file has its length even if
@@ -60,15 +62,19 @@ impl<'a, 'f, F: OpenFile + Write + Seek + Drop> OutFile<'a, 'f, F> {
             return Some(());
         };
         self.left_out = 0;
-        self.watched.skip(hole).ok()?;
-        match self.watched.write(&[0]) {
+        let file = &mut self.file.begun()?.file;
+        file.skip(hole).ok()?;
+        match file.write(&[0]) {
             Ok(1) => Some(()),
             _ => None,
         }
     }
 }
 
-impl<F: OpenFile + Write + Seek + Drop> Outlet for OutFile<'_, '_, F> {
+impl<H: Files + AllocGlobal> Outlet for OutFile<'_, '_, '_, H>
+where
+    H::File: SystemFile,
+{
     ghost use Rattle.std.specs.Prelude.{None};
 
     ghost took = { λ _. None };
@@ -93,7 +99,7 @@ impl<F: OpenFile + Write + Seek + Drop> Outlet for OutFile<'_, '_, F> {
     }
 
     fn leave_out_zeros(&mut self, count: usize) -> bool {
-        if !self.may_have_holes {
+        if !self.file.may_have_holes() {
             return false;
         }
         match self.left_out.checked_add(count as u64) {

@@ -4,12 +4,12 @@ ghost use Rattle.collector.specs.Streams.{IsTextBegun, IsFirstOfBytes, IsTextWri
 ghost use Rattle.collection_commands.specs.Record.{IsRecording};
 ghost use Rattle.collection_commands.specs.Figures.{IsFigures, figures_line};
 
-use crate::collection::{Run, collect_files};
+use crate::collection::{Run, collect_files, late_file};
 use crate::figures::{FiguresLine, LINE_ROOM, with_line};
 use crate::workers::Workers;
 use collector::{Gate, record_stream};
 use command_files::{
-    FileTarget, Output, SystemFile, WorkDone, failed, must_differ, output_must_differ, same_file,
+    FileTarget, Late, SystemFile, WorkDone, must_differ, output_must_differ, same_file,
 };
 use command_line::Record;
 use command_support::{FileId, FileWord, Role, Trouble, Watched};
@@ -33,21 +33,19 @@ where
     let run = Run::start(rt, request.stats, request.workers);
     let (image, out, schedule) = image_out_and_schedule(rt, &request)?;
     let image = image.with_shape(request.shape);
+    let (out, schedule) = both_late(rt, out, image.regular_len(), schedule)?;
     collect_files(rt, run, image, out, Some(schedule))
 }
 
 /// The file to read, and the two to write.
-type ImageOutAndSchedule<'a, F> = (Watched<'a, F>, Output<'a, F>, Output<'a, F>);
+type ImageOutAndSchedule<'a, F> = (Watched<'a, F>, FileTarget<'a, F>, FileTarget<'a, F>);
 
-/// Opens the image, then creates or empties OUT and the schedule's file. No two may be one file, but for the first
-/// two with `--atomic`.
+/// Opens the image, then finds OUT and the schedule's file. No two may be one file, but for the first two with
+/// `--atomic`.
 fn image_out_and_schedule<'a, H: Files + AllocGlobal>(
     host: &H,
     request: &Record<'a>,
-) -> Result<ImageOutAndSchedule<'a, H::File>, Trouble>
-where
-    H::File: SystemFile,
-{
+) -> Result<ImageOutAndSchedule<'a, H::File>, Trouble> {
     let named = Named {
         image: FileWord::new(Role::Image, request.image),
         out: FileWord::new(Role::Out, request.out),
@@ -56,7 +54,6 @@ where
     names_must_differ(host.alloc(), named, request.atomic)?;
     let image = Watched::open(host, named.image)?;
     let (out, schedule) = targets_beside(host, &image, named, request.atomic)?;
-    let (out, schedule) = begin_both(host, out, schedule)?;
     Ok((image, out, schedule))
 }
 
@@ -80,7 +77,8 @@ fn names_must_differ(alloc: Global, named: Named<'_>, atomic: bool) -> Result<()
 /// The two files to write, before they are changed.
 type Targets<'a, F> = (FileTarget<'a, F>, FileTarget<'a, F>);
 
-/// Finds the two files to write. If two of the three are one file and may not be, both are left unchanged.
+/// Finds the two files to write. If one can't be opened, or two of the three are one file and may not be, both are left
+/// unchanged.
 fn targets_beside<'a, H: Files + AllocGlobal>(
     host: &H,
     image: &Watched<'a, H::File>,
@@ -89,32 +87,42 @@ fn targets_beside<'a, H: Files + AllocGlobal>(
 ) -> Result<Targets<'a, H::File>, Trouble> {
     let (id, writing) = (image.id()?, image.writing(atomic)?);
     let out = FileTarget::find(host, named.out, writing)?;
-    let schedule = FileTarget::find(host, named.schedule, writing)?;
-    if let Some((one, other)) = one_file(host, (named.image, id), &out, &schedule)? {
-        let same = same_file(host.alloc(), one, other);
-        schedule.leave(host);
-        out.leave(host);
-        return Err(same?);
-    }
-    Ok((out, schedule))
+    let schedule = match FileTarget::find(host, named.schedule, writing) {
+        Ok(schedule) => schedule,
+        Err(trouble) => {
+            out.leave(host);
+            return Err(trouble);
+        }
+    };
+    let refused = match one_file(host, (named.image, id), &out, &schedule) {
+        Ok(None) => return Ok((out, schedule)),
+        Ok(Some((one, other))) => same_file(host.alloc(), one, other),
+        Err(trouble) => Ok(trouble),
+    };
+    schedule.leave(host);
+    out.leave(host);
+    Err(refused?)
 }
 
-/// The two files to write, open.
-type Outputs<'a, F> = (Output<'a, F>, Output<'a, F>);
+/// The two files to write.
+type Lates<'a, 'h, H> = (Late<'a, 'h, H>, Late<'a, 'h, H>);
 
-/// Begins to write both files. No temporary file gets the name of a file to be replaced.
-fn begin_both<'a, H: Files + AllocGlobal>(
-    host: &H,
+/// Both files, of which OUT will be this long. No new file gets the name of a file to be replaced.
+fn both_late<'a, 'h, H: Files + AllocGlobal>(
+    host: &'h H,
     out: FileTarget<'a, H::File>,
+    out_len: u64,
     schedule: FileTarget<'a, H::File>,
-) -> Result<Outputs<'a, H::File>, Trouble>
+) -> Result<Lates<'a, 'h, H>, Trouble>
 where
     H::File: SystemFile,
 {
-    let out = out.begin_apart(host, schedule.place_name())?;
-    match schedule.begin_apart(host, out.place_name()) {
+    let beside_out = schedule.place_text(host.alloc())?;
+    let beside_schedule = out.place_text(host.alloc())?;
+    let out = late_file(host, out, beside_out, out_len)?;
+    match late_file(host, schedule, beside_schedule, 0) {
         Ok(schedule) => Ok((out, schedule)),
-        Err(trouble) => Err(failed(host, trouble, out)),
+        Err(trouble) => Err(out.failed(trouble)),
     }
 }
 

@@ -6,7 +6,7 @@ use crate::output::Output;
 use crate::replacement::{Making, Replacement};
 use crate::system_file::SystemFile;
 use command_support::{FileId, FileWord, SystemCall, Trouble, Watched, Writing, on_file};
-use std::alloc::AllocError;
+use std::alloc::{AllocError, Global};
 use std::fs::{Metadata, OpenFile, OpenOptions};
 use std::io::ErrorKind;
 use std::os::unix::fs::OpenOptionsExt;
@@ -94,6 +94,14 @@ impl<'a, F: OpenFile + Drop> FileTarget<'a, F> {
         match &self.way {
             Way::InPlace { .. } => None,
             Way::Beside { place, .. } => place.file_name(),
+        }
+    }
+
+    /// The name of that place as a text of its own.
+    pub fn place_text(&self, alloc: Global) -> Result<Option<String>, AllocError> {
+        match self.place_name() {
+            Some(name) => Ok(Some(String::from_str(alloc, name)?)),
+            None => Ok(None),
         }
     }
 

@@ -12,8 +12,8 @@ use std::alloc::{AllocError, Global};
 use std::fs::OpenFile;
 use std::rt::Files;
 
-/// A file to read, and one to write.
-type ImageAndOut<'a, F> = (Watched<'a, F>, Output<'a, F>);
+/// A file to read, open, and one to write.
+type InputAndTarget<'a, F> = (Watched<'a, F>, FileTarget<'a, F>);
 
 /// Opens the image of this name, to read it with this shape.
 ///
@@ -27,24 +27,30 @@ pub fn open_image<'a, H: Files>(
     Ok(image.with_shape(shape))
 }
 
-/// Opens a file to read, and then makes or empties one to write. They may be one file only with `atomic`.
+/// Opens a file to read, and finds one to write. They may be one file only with `atomic`.
+pub fn input_and_target<'a, H: Files + AllocGlobal>(
+    host: &H,
+    read: FileWord<'a>,
+    written: FileWord<'a>,
+    atomic: bool,
+) -> Result<InputAndTarget<'a, H::File>, Trouble> {
+    if !atomic {
+        output_must_differ(host.alloc(), read, written)?;
+    }
+    let read = Watched::open(host, read)?;
+    let target = target_beside(host, &read, written, atomic)?;
+    Ok((read, target))
+}
+
+/// Opens the image of this name to read it, and finds the file of this name to write. They may be one file only with `atomic`.
 pub fn image_and_out<'a, H: Files + AllocGlobal>(
     host: &H,
     image: &'a str,
     out: &'a str,
     atomic: bool,
-) -> Result<ImageAndOut<'a, H::File>, Trouble>
-where
-    H::File: SystemFile,
-{
+) -> Result<InputAndTarget<'a, H::File>, Trouble> {
     let image = FileWord::new(Role::Image, image);
-    let out = FileWord::new(Role::Out, out);
-    if !atomic {
-        output_must_differ(host.alloc(), image, out)?;
-    }
-    let image = Watched::open(host, image)?;
-    let out = target_beside(host, &image, out, atomic)?;
-    Ok((image, out.begin_apart(host, None)?))
+    input_and_target(host, image, FileWord::new(Role::Out, out), atomic)
 }
 
 /// Opens two files to read. Standard input can't be both.
@@ -223,16 +229,4 @@ where
 pub fn failed<H: Files>(host: &H, trouble: Trouble, out: Output<'_, H::File>) -> Trouble {
     out.abandon(host);
     trouble
-}
-
-/// Abandons the image that a command was writing, and returns the error with the file that it is about, which is one of the
-/// two.
-pub fn failed_between<'a, H: Files>(
-    host: &H,
-    trouble: Trouble,
-    image: &Watched<'a, H::File>,
-    out: Output<'a, H::File>,
-) -> Trouble {
-    let trouble = trouble.if_image(image).if_failed(&out.file);
-    failed(host, trouble, out)
 }

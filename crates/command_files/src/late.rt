@@ -2,7 +2,7 @@
 ghost use Rattle.std.specs.Prelude.{◌≡◌, IfOk, string_bytes};
 
 use crate::file_target::FileTarget;
-use crate::files::ended;
+use crate::files::{both_ended, ended, failed};
 use crate::output::Output;
 use crate::system_file::SystemFile;
 use crate::work_done::WorkDone;
@@ -19,6 +19,8 @@ pub struct Late<'a, 'h, H: Files> {
     found: Option<FileTarget<'a, H::File>>,
     /// The name that a new file doesn't get.
     apart: Option<String>,
+    /// How long the file will be, or 0 where that isn't known.
+    expected: u64,
     /// The file from its first byte on, or the error that prevented it.
     begun: Option<Result<Output<'a, H::File>, Trouble>>,
 }
@@ -29,6 +31,7 @@ impl<H: Files> Drop for Late<'_, '_, H> {
             host: _,
             found: _,
             apart: _,
+            expected: _,
             begun: _,
         } = self;
     }
@@ -44,19 +47,21 @@ where
             host,
             found: Some(found),
             apart: None,
+            expected: 0,
             begun: None,
         }
     }
 
-    /// Wraps a file, which stays unchanged until the first byte. A new file doesn't get this name, which is that of the other file
-    /// that the command writes.
-    pub fn apart(host: &'h H, found: FileTarget<'a, H::File>, name: String) -> Late<'a, 'h, H> {
-        Late {
-            host,
-            found: Some(found),
-            apart: Some(name),
-            begun: None,
-        }
+    /// The same, but a new file doesn't get this name, which is that of the place of the other file that the command writes.
+    pub fn apart(mut self, name: Option<String>) -> Late<'a, 'h, H> {
+        self.apart = name;
+        self
+    }
+
+    /// The same, for a file that will be this long, for who shows how far it is.
+    pub fn expecting(mut self, len: u64) -> Late<'a, 'h, H> {
+        self.expected = len;
+        self
     }
 
     fn begin(&mut self) {
@@ -65,7 +70,28 @@ where
                 Some(name) => Some(name.as_str()),
                 None => None,
             };
-            self.begun = Some(found.begin_apart(self.host, apart));
+            let begun = found.begin_apart(self.host, apart);
+            if let Ok(output) = &begun {
+                output.file.file().expect_len(self.expected);
+            }
+            self.begun = Some(begun);
+        }
+    }
+
+    /// The file, begun if it wasn't yet. None if it can't be.
+    pub fn begun(&mut self) -> Option<&mut Output<'a, H::File>> {
+        self.begin();
+        match &mut self.begun {
+            Some(Ok(output)) => Some(output),
+            _ => None,
+        }
+    }
+
+    /// Whether zeros may be left out, as holes: only in a regular file that was begun.
+    pub fn may_have_holes(&self) -> bool {
+        match &self.begun {
+            Some(Ok(output)) => output.may_have_holes,
+            _ => false,
         }
     }
 
@@ -86,6 +112,21 @@ where
     {
         let host = self.host;
         ended(host, line, self.into_output()?)
+    }
+
+    /// Finishes both files, even if nothing was written. The command prints this line.
+    pub fn ended_with(self, other: Late<'a, 'h, H>, line: String) -> Result<WorkDone<'a>, Trouble>
+        ensures { IfOk result (λ done. done.text.items ≡ string_bytes line) }
+    {
+        let host = self.host;
+        let output = match self.into_output() {
+            Ok(output) => output,
+            Err(trouble) => return Err(other.failed(trouble)),
+        };
+        match other.into_output() {
+            Ok(other) => both_ended(host, line, output, other),
+            Err(trouble) => Err(failed(host, trouble, output)),
+        }
     }
 
     /// The error of a command that failed before the file was complete. A file that wasn't begun is unchanged.
@@ -110,10 +151,9 @@ where
     H::File: SystemFile,
 {
     fn write(&mut self, buf: &[u8]) -> io::Result<usize> {
-        self.begin();
-        match &mut self.begun {
-            Some(Ok(output)) => output.file.write(buf),
-            _ => Err(Error::from(ErrorKind::Other)),
+        match self.begun() {
+            Some(output) => output.file.write(buf),
+            None => Err(Error::from(ErrorKind::Other)),
         }
     }
 

@@ -71,7 +71,7 @@ fn is_new_file_of(named: &Metadata, user: u32) -> bool {
     named.is_file() && named.uid() == user && named.nlink() == 1 && named.ino() != 0
 }
 
-/// Whether it is one of the standard streams. The answer is no where `/proc` isn't mounted.
+/// Whether it may be one of the standard streams: where `/proc` isn't mounted, any file may.
 fn is_stream<H: Files>(host: &H, id: FileId) -> bool {
     leads_to(host, "/proc/self/fd/0", id)
         || leads_to(host, "/proc/self/fd/1", id)
@@ -81,7 +81,7 @@ fn is_stream<H: Files>(host: &H, id: FileId) -> bool {
 fn leads_to<H: Files>(host: &H, name: &str, id: FileId) -> bool {
     match fs::metadata(host, name) {
         Ok(file) => FileId::of(&file).is_same(id),
-        Err(_) => false,
+        Err(_) => true,
     }
 }
 

@@ -30,7 +30,7 @@ mod work_done;
 
 pub use file_target::FileTarget;
 pub use files::{
-    both_ended, different_target, ended, failed, failed_between, image_and_out, must_differ,
+    both_ended, different_target, ended, failed, image_and_out, input_and_target, must_differ,
     not_regular, open_image, other_target, output_must_differ, reject_same_file, same_file,
     target_beside, two_different_inputs, two_inputs,
 };

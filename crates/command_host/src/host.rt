@@ -1,12 +1,14 @@
 //! The system that commands run on, with standard output among its files.
+use crate::standard_error::StandardError;
 use crate::standard_output::StandardOutput;
+use crate::streams::{ClosedStreams, closed};
 use command_files::{FileLock, SystemFile};
 use command_support::FileId;
 use command_times::{Gauge, Meter, Phase};
 use std::alloc::Allocator;
 use std::fs::{FileTimes, Metadata, OpenFile, OpenOptions, Permissions};
 use std::io;
-use std::io::{PipeReader, PipeWriter, Read, Seek, SeekFrom, Stderr, Write};
+use std::io::{PipeReader, PipeWriter, Read, Seek, SeekFrom, Write};
 use std::os::fd::BorrowedFd;
 use std::os::unix::fs::FileExt;
 use std::os::unix::net::SocketAddr;
@@ -15,6 +17,9 @@ use std::rt::Files;
 use std::sync::Wait;
 use std::thread::Threads;
 use std::time::{Clock, Duration};
+
+/// The path of standard input's file.
+const STANDARD_INPUT: &str = "/proc/self/fd/0";
 
 /// The path of standard output's file.
 const STANDARD_OUTPUT: &str = "/proc/self/fd/1";
@@ -28,34 +33,47 @@ const STANDARD_ERROR: &str = "/proc/self/fd/2";
 #[derive(Drop)]
 pub struct Host<'s, R> {
     rt: R,
+    has_input: bool,
     stdout: &'s StandardOutput,
     meter: &'s Meter,
 }
 
 impl<'s, R> Host<'s, R> {
-    /// This system, with this standard output and this meter.
-    pub fn new(rt: R, stdout: &'s StandardOutput, meter: &'s Meter) -> Host<'s, R> {
-        Host { rt, stdout, meter }
+    /// This system without these streams, with this standard output and this meter.
+    pub fn new(
+        rt: R,
+        closed: &ClosedStreams,
+        stdout: &'s StandardOutput,
+        meter: &'s Meter,
+    ) -> Host<'s, R> {
+        Host {
+            rt,
+            has_input: closed.has_input(),
+            stdout,
+            meter,
+        }
     }
 }
 
 impl<'s, R: Files> Host<'s, R> {
-    /// Whether it is the file of the standard stream at this path.
-    fn is_stream(&self, file: &R::File, path: &str) -> bool {
-        match (file.metadata(), self.rt.metadata(path)) {
-            (Ok(opened), Ok(standard)) => FileId::of(&opened).is_same(FileId::of(&standard)),
-            _ => false,
-        }
+    /// Whether it is the file of the standard stream at this path. None if that can't be told, as where `/proc` isn't mounted.
+    fn is_stream(&self, file: &R::File, path: &str) -> Option<bool> {
+        let opened = FileId::of(&file.metadata().ok()?);
+        let standard = FileId::of(&self.rt.metadata(path).ok()?);
+        standard.is_known().then_some(opened.is_same(standard))
     }
 
     /// The file, which is written.
     fn written(&self, file: R::File) -> HostFile<'s, R::File> {
-        if self.meter.is_on() && self.is_stream(&file, STANDARD_ERROR) {
+        if self.meter.is_on() && self.is_stream(&file, STANDARD_ERROR) != Some(false) {
             self.meter.end();
         }
         let gauge = self.meter.gauge(Phase::Write, &file);
-        let stdout = if self.is_stream(&file, STANDARD_OUTPUT) {
+        let is_stdout = self.is_stream(&file, STANDARD_OUTPUT);
+        if is_stdout != Some(false) {
             self.stdout.take();
+        }
+        let stdout = if is_stdout == Some(true) {
             Some(self.stdout)
         } else {
             None
@@ -100,6 +118,9 @@ impl<'s, R: Files> Files for Host<'s, R> {
     type Dir = R::Dir;
 
     fn open_file(&self, how: &OpenOptions, path: &str) -> io::Result<HostFile<'s, R::File>> {
+        if path == STANDARD_INPUT && !self.has_input {
+            return Err(closed());
+        }
         let file = self.rt.open_file(how, path)?;
         if how.asks_write() {
             return Ok(self.written(file));
@@ -305,18 +326,18 @@ impl<F: SystemFile + Drop> SystemFile for HostFile<'_, F> {
     }
 }
 
-/// Where a command prints: to standard output, or to standard error if it has written standard output as a file. It ends the
-/// meter.
+/// Where a command prints: to standard output, or to standard error if it may have written standard output as a file. It ends
+/// the meter.
 #[derive(Drop)]
 pub struct Printer<'s> {
     stdout: &'s StandardOutput,
-    stderr: Stderr,
+    stderr: StandardError,
     meter: &'s Meter,
 }
 
 impl<'s> Printer<'s> {
     /// A printer to this standard output, or to this standard error.
-    pub fn new(stdout: &'s StandardOutput, stderr: Stderr, meter: &'s Meter) -> Printer<'s> {
+    pub fn new(stdout: &'s StandardOutput, stderr: StandardError, meter: &'s Meter) -> Printer<'s> {
         Printer {
             stdout,
             stderr,
@@ -348,13 +369,13 @@ impl Write for Printer<'_> {
 #[derive(Drop)]
 pub struct Errors<'s> {
     stdout: &'s StandardOutput,
-    stderr: Stderr,
+    stderr: StandardError,
     meter: &'s Meter,
 }
 
 impl<'s> Errors<'s> {
     /// The errors of commands with this standard output, for this standard error.
-    pub fn new(stdout: &'s StandardOutput, stderr: Stderr, meter: &'s Meter) -> Errors<'s> {
+    pub fn new(stdout: &'s StandardOutput, stderr: StandardError, meter: &'s Meter) -> Errors<'s> {
         Errors {
             stdout,
             stderr,

@@ -17,8 +17,12 @@
 mod ahead;
 mod host;
 mod image_file;
+mod standard_error;
 mod standard_output;
+mod streams;
 
 pub use host::{Errors, Host, HostFile, Printer};
 pub use image_file::ImageFile;
+pub use standard_error::StandardError;
 pub use standard_output::StandardOutput;
+pub use streams::{ClosedStreams, closed};

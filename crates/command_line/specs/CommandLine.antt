@@ -1,8 +1,11 @@
-use Rattle.std.specs.Prelude.{◌≡◌, ℕ, ◌<◌, Contains, IsTrue, nat_eq, true, List, [], ◌∷◌, length, map, slice_index_or, String, codes, option_map, Some, string_bytes}
+use Rattle.std.specs.Prelude.{◌≡◌, ◌≢◌, ◌⊎◌, ℕ, ◌<◌, Contains, IsTrue, nat_eq, true, List, [], ◌∷◌, length, map, slice_index_or, String, codes, option_map, Some, string_bytes}
 use Rattle.std.specs.List.{starts_with}
 use Rattle.clap.specs.Walk.{Text}
-use Rattle.clap.specs.Words.{App, new_app, subcommand_of, takes, with_subcommand}
+use Rattle.clap.specs.Words.{App, IsAmong, fault_of, new_app, subcommand_of, takes, with_subcommand}
+use Rattle.clap.specs.declared.error.kind.ErrorKind.{ErrorKind}
+use Rattle.clap.specs.declared.error.kind.ErrorKind.TheVariants.{DisplayHelp, DisplayVersion}
 use Rattle.command_line.specs.Commands.{listed}
+use Rattle.command_line.specs.Respelling.{plain_line}
 
 module _ {A : Type 0} where
   -- the words have these texts
@@ -42,3 +45,17 @@ module _ {A : Type 0} where
   -- the words call the command of this name
   abbrev pub AreCallOf : Text → List (String A) → Type 0
   AreCallOf name words = IsCallOf name (map string_bytes words)
+
+-- the program refuses the line, and shows neither help nor its version
+abbrev pub IsRefused : List Text → Type 0
+IsRefused line = (fault_of commands line ≢ [])
+    × ((kind : ErrorKind) → IsAmong kind (fault_of commands line) → (kind ≢ DisplayHelp) × (kind ≢ DisplayVersion))
+
+-- the line is refused, but with plain options it calls the command of this name
+abbrev pub IsPlainCallOf : Text → List Text → Type 0
+IsPlainCallOf name line = IsRefused line × IsCallOf name (plain_line line)
+
+module _ {A : Type 0} where
+  -- the words call the command of this name, as they are or with plain options
+  abbrev pub AreLineOf : Text → List (String A) → Type 0
+  AreLineOf name words = AreCallOf name words ⊎ IsPlainCallOf name (map string_bytes words)

@@ -146,7 +146,7 @@ fn program<'a>(alloc: Global) -> Result<Command<'a>, AllocError>
     ensures { IfOk result (λ command. app_of command ≡ program_words) }
 {
     Command::new(alloc, "pcompact")
-        .version("0.2.0")
+        .version("0.3.0")
         .about(ABOUT)
         .after_help(STATUSES)
         .no_binary_name(true)

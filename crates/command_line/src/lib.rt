@@ -46,6 +46,6 @@ pub use commands::upgrade::{Upgrade, lines_call_upgrade};
 pub use commands::verify::{Verify, line_calls_verify};
 pub use reading::read;
 pub use request::Request;
-pub use respelled::{Respelled, When, progress_in, respell};
+pub use respelled::{Respelled, When, lines_call_plainly, progress_in, respell};
 pub use shape::Shape;
 pub use unread::Unread;

@@ -1,7 +1,8 @@
 //! The options `--verbose`, `--color` and `--progress` with a value. Commands that `clap` compares exactly with their definitions have no option
 //! whose value may be left out, so such lines are parsed a second time, with the plain options.
-ghost use Rattle.std.specs.Prelude.{◌≡◌, ℕ, Bool, false, List, map, filter, string_bytes, IsTrue, IfOk, IfSome};
-ghost use Rattle.command_line.specs.Respelling.{mentions, other_texts};
+ghost use Rattle.std.specs.Prelude.{◌≡◌, ◌∷◌, [], codes, ℕ, Bool, false, List, map, filter, string_bytes, is_some, IsTrue, IfOk, IfSome};
+ghost use Rattle.command_line.specs.CommandLine.{IsPlainCallOf};
+ghost use Rattle.command_line.specs.Respelling.{has_value, is_on, mentions, other_texts, plain_by, plain_line, plain_words};
 
 use std::alloc::{AllocError, Global};
 
@@ -17,7 +18,7 @@ pub enum When {
 impl When {
     /// What this word says, if it is the option with a value.
     fn of_word(word: &str, option: &str) -> Option<When>
-        ensures { IfSome result (λ _. IsTrue (mentions option.now word.now)) }
+        ensures { is_some result ≡ has_value option.now word.now }
     {
         match word.strip_prefix(option)? {
             "=auto" => Some(When::Auto),
@@ -51,7 +52,9 @@ pub struct Respelled {
 /// Spells each `--verbose`, `--color` and `--progress` with a value as the plain option, or returns `None` if there is none. All
 /// other words stay.
 pub fn respell(alloc: Global, words: &[String]) -> Result<Option<Respelled>, AllocError>
-    ensures { IfOk result (λ found. IfSome found (λ line. other_texts line.words.items ≡ other_texts words.now)) }
+    ensures plain { IfOk result (λ found. IfSome found (λ line.
+        map string_bytes line.words.items ≡ plain_line (map string_bytes words.now))) }
+    ensures others { IfOk result (λ found. IfSome found (λ line. other_texts line.words.items ≡ other_texts words.now)) }
 {
     let verbose = Mentions::of("--verbose", words);
     let color = Mentions::of("--color", words);
@@ -59,13 +62,28 @@ pub fn respell(alloc: Global, words: &[String]) -> Result<Option<Respelled>, All
     if verbose.last.is_none() && color.last.is_none() && progress.last.is_none() {
         return Ok(None);
     }
-    let first = verbose.spell(alloc, words)?;
-    let second = color.spell(alloc, first.as_slice())?;
+    let first = spell_plainly(alloc, "--verbose", words)?;
+    let second = spell_plainly(alloc, "--color", first.as_slice())?;
     Ok(Some(Respelled {
-        words: progress.spell(alloc, second.as_slice())?,
+        words: spell_plainly(alloc, "--progress", second.as_slice())?,
         verbose: verbose.when(),
         color: color.when(),
     }))
+}
+
+/// The words with this option plain in place of its values.
+fn spell_plainly(
+    alloc: Global,
+    option: &'static str,
+    words: &[String],
+) -> Result<Vec<String>, AllocError>
+    ensures plain { IfOk result (λ line.
+        map string_bytes line.items ≡ plain_by option.now (map string_bytes words.now)) }
+    ensures others { IfOk result (λ line. (picks : List ℕ → Bool)
+        → ((word : List ℕ) → IsTrue (mentions option.now word) → picks word ≡ false)
+        → filter picks (map string_bytes line.items) ≡ filter picks (map string_bytes words.now)) }
+{
+    Mentions::of(option, words).spell(alloc, words)
 }
 
 /// The commands that show progress.
@@ -96,7 +114,8 @@ struct Mentions {
 
 impl Mentions {
     fn of(option: &'static str, words: &[String]) -> Mentions
-        ensures { result.option ≡ option.entry }
+        ensures option { result.option ≡ option.entry }
+        ensures plain { result.is_plain ≡ is_on option.now (map string_bytes words.now) }
     {
         let mut is_plain = false;
         let mut last = None;
@@ -127,7 +146,9 @@ impl Mentions {
 
     /// The line without values: with the plain option in place of the first, unless it is on the line already.
     fn spell(self, alloc: Global, words: &[String]) -> Result<Vec<String>, AllocError>
-        ensures { IfOk result (λ line. (picks : List ℕ → Bool)
+        ensures plain { IfOk result (λ line.
+            map string_bytes line.items ≡ plain_words self.option.now self.is_plain (map string_bytes words.now)) }
+        ensures others { IfOk result (λ line. (picks : List ℕ → Bool)
             → ((word : List ℕ) → IsTrue (mentions self.option.now word) → picks word ≡ false)
             → filter picks (map string_bytes line.items) ≡ filter picks (map string_bytes words.now)) }
     {
@@ -150,3 +171,9 @@ impl Mentions {
         Ok(spelled)
     }
 }
+
+/// Lines that are refused, and that call a command with plain options.
+pub fn lines_call_plainly()
+    ensures order { IsPlainCallOf (codes "order") (codes "order" ∷ codes "heap.pcheap" ∷ codes "--json" ∷ codes "--verbose=always" ∷ []) }
+    ensures import { IsPlainCallOf (codes "import") (codes "import" ∷ codes "--progress=never" ∷ codes "heap.hprof" ∷ codes "heap.pcheap" ∷ codes "--histogram" ∷ codes "3" ∷ []) }
+{}

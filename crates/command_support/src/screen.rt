@@ -14,6 +14,8 @@ pub const USUAL_WIDTH: u32 = 64;
 /// What standard output can show, and whether a person reads standard error.
 #[derive(Clone, Copy)]
 pub struct Screen {
+    /// Whether standard output was open when the program began.
+    pub is_open: bool,
     /// Whether standard output is a terminal.
     pub is_terminal: bool,
     /// Whether standard error is a terminal.
@@ -29,9 +31,10 @@ pub struct Screen {
 }
 
 impl Screen {
-    /// The screen of a standard output and a standard error that are terminals or not, with the locale of this environment.
+    /// The screen of an open standard output and a standard error that are terminals or not, with the locale of this environment.
     pub fn of<E: Env>(env: &E, is_terminal: bool, shows_errors: bool) -> Screen {
         Screen {
+            is_open: true,
             is_terminal,
             shows_errors,
             is_utf8: is_utf8(env),

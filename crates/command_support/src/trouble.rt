@@ -58,8 +58,14 @@ impl Trouble {
     pub fn of_call(file: FileWord<'_>, call: SystemCall, error: &io::Error) -> Trouble
         ensures { result.failure ≡ failed_device }
     {
+        let failed = FailedCall::of(call, error);
+        let failed = if file.is_standard() {
+            failed.on_stream()
+        } else {
+            failed
+        };
         Trouble::new(Failure::Fault(Fault::Io))
-            .because(Reason::SystemCall(FailedCall::of(call, error)))
+            .because(Reason::SystemCall(failed))
             .about(file)
     }
 

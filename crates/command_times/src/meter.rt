@@ -41,7 +41,7 @@ pub struct Meter {
 impl Meter {
     /// A meter that shows something always, on a terminal or never. Unless it is always, it waits for a second.
     ///
-    /// It stays off where standard error is closed: a file of the command may get its number.
+    /// It stays off where standard error is closed.
     pub fn new(rt: HostRuntime, when: When, is_terminal: bool, columns: Option<u32>) -> Meter {
         let is_on = when.is_now(is_terminal) && rt.stderr().write(&[]).is_ok();
         let first = if when == When::Always { 0 } else { DELAY };

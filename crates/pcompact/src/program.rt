@@ -1,9 +1,10 @@
 //! The whole program, over any two writers.
-ghost use Rattle.std.specs.Prelude.{◌≡◌, ◌≢◌, ◌≤◌, ◌∷◌, ◌⊎◌, [], codes, ℕ, Bool, List, Option, None, IfOk, OnOk, IfErr, IfSome, IsTrue};
+ghost use Rattle.std.specs.Prelude.{◌≡◌, ◌≢◌, ◌≤◌, ◌∷◌, ◌⊎◌, [], codes, map, string_bytes, ℕ, Bool, List, Option, None, IfOk, OnOk, IfErr, IfSome, IsTrue};
 ghost use Rattle.command_line.specs.Request.{IsFor, IsNoUsage, rows_of};
 ghost use Rattle.heap_commands.specs.Import.{IsImportText};
 ghost use Rattle.std.specs.Io.KnownBytes.{Appends};
-ghost use Rattle.command_line.specs.CommandLine.{AreWords, AreCallOf, HaveBeginning, HaveWord};
+ghost use Rattle.command_line.specs.CommandLine.{AreWords, AreCallOf, AreLineOf, HaveBeginning, HaveWord};
+ghost use Rattle.command_line.specs.Respelling.{plain_line};
 ghost use Rattle.pcompact.specs.Commands.{IsPrintedBy};
 ghost use Rattle.command_line.specs.declared.unread.Unread.{Unread};
 ghost use Rattle.command_support.specs.Failure.{failed_device, out_of_memory, status_of};
@@ -12,6 +13,7 @@ ghost use Rattle.command_support.specs.Json.{as_shown};
 use crate::commands;
 use crate::named_files::named_files;
 use command_files::{SystemFile, WorkDone};
+use command_host::closed;
 use command_line::{Request, Respelled, Unread};
 use command_support::{
     FailedCall, Failure, NamedFiles, Printable, Reason, Screen, SystemCall, Trouble, push_json,
@@ -53,13 +55,14 @@ where
     ensures usage { result ≡ 2 → out.new ≡ out.old }
     ensures board_is_known { AreWords words.now (codes "board" ∷ []) → result ≤ 1 }
 
-    // What a good call of a command prints, by the command's name; with `--json`, perhaps as an object.
-    ensures prints { (name : List ℕ) → AreCallOf name words.now → result ≡ 0
+    // What a good call of a command prints, by the command's name; with `--json`, perhaps as an object. A line may have options
+    // with a value, as `--verbose=always`, if it calls the command with plain ones.
+    ensures prints { (name : List ℕ) → AreLineOf name words.now → result ≡ 0
         → (text : List ℕ) × IsPrintedBy name text
         × (json : Bool) × (IsTrue json → HaveWord (codes "--json") words.now)
         × Appends (A.contents out.old) (A.contents out.new) (as_shown json text) }
     // Without `--histogram`, `import` prints the line with the figures alone.
-    ensures import { AreCallOf (codes "import") words.now → result ≡ 0
+    ensures import { AreLineOf (codes "import") words.now → result ≡ 0
         → (text : List ℕ) × (rows : Option ℕ) × IsImportText rows text
         × (rows ≢ None → HaveBeginning (codes "--histogram") words.now)
         × (json : Bool) × (IsTrue json → HaveWord (codes "--json") words.now)
@@ -110,7 +113,7 @@ impl Manner {
     }
 }
 
-/// Carries out a request, and returns the exit status.
+/// Carries out a request, and returns the exit status. Where standard output is closed that is fault 13, before a file is opened.
 fn carry_out<R: Files + AllocGlobal + Threads + Wait + Clock + Sync, A: Write, B: Write>(
     rt: &R,
     request: Request<'_>,
@@ -132,6 +135,9 @@ where
         × Appends (A.contents out.old) (A.contents out.new) (as_shown manner.json text) }
 {
     let named = manner.details.then_some(named_files(&request));
+    if !manner.screen.is_open {
+        return report(&unprinted(&closed()), named, err);
+    }
     let done = match answer(rt, manner, request) {
         Ok(done) => done,
         Err(trouble) => return report(&trouble, named, err),
@@ -181,23 +187,22 @@ where
 
 /// A line that isn't a request, with plain options in place of those with a value.
 #[derive(Drop)]
-struct Spelled {
+struct Spelled<'w> {
     line: Respelled,
-    /// Whether `--stats` is among the words as they were.
-    has_stats: bool,
+    /// The words as they were.
+    words: &'w [String],
 }
 
 /// Spells these words anew, if they are wrong usage and have options with a value. If memory runs out they stay wrong usage.
-fn respelled(alloc: Global, words: &[String], unread: &Unread) -> Option<Spelled>
+fn respelled<'w>(alloc: Global, words: &'w [String], unread: &Unread) -> Option<Spelled<'w>>
     ensures usage_alone { IsNoUsage unread.now → result ≡ None }
-    ensures stats { IfSome result (λ spelled. IsTrue spelled.has_stats → HaveWord (codes "--stats") words.now) }
+    ensures words { IfSome result (λ spelled. spelled.words.now ≡ words.now) }
+    ensures plain { IfSome result (λ spelled.
+        map string_bytes spelled.line.words.items ≡ plain_line (map string_bytes words.now)) }
 {
     match unread {
         Unread::Usage(_) => match command_line::respell(alloc, words) {
-            Ok(Some(line)) => Some(Spelled {
-                line,
-                has_stats: have_word(words, "--stats"),
-            }),
+            Ok(Some(line)) => Some(Spelled { line, words }),
             _ => None,
         },
         Unread::NoCommand | Unread::Memory => None,
@@ -207,7 +212,7 @@ fn respelled(alloc: Global, words: &[String], unread: &Unread) -> Option<Spelled
 /// Runs the program on arguments that were spelled anew, and returns the exit status.
 fn run_respelled<R: Files + AllocGlobal + Threads + Wait + Clock + Sync, A: Write, B: Write>(
     rt: &R,
-    spelled: &Spelled,
+    spelled: &Spelled<'_>,
     screen: Screen,
     out: &mut A,
     err: &mut B,
@@ -215,18 +220,27 @@ fn run_respelled<R: Files + AllocGlobal + Threads + Wait + Clock + Sync, A: Writ
 where
     R::File: FileExt + SystemFile + Sync,
     ensures status { result ≤ 2 }
-    ensures good { result ≡ 0 → (err.new ≡ err.old) ⊎ IsTrue spelled.now.has_stats }
+    ensures good { result ≡ 0 → (err.new ≡ err.old) ⊎ HaveWord (codes "--stats") spelled.now.words.now }
     ensures usage { result ≡ 2 → out.new ≡ out.old }
+    ensures prints { (name : List ℕ) → AreCallOf name spelled.now.line.words.items → result ≡ 0
+        → (text : List ℕ) × IsPrintedBy name text
+        × (json : Bool) × (IsTrue json → HaveWord (codes "--json") spelled.now.words.now)
+        × Appends (A.contents out.old) (A.contents out.new) (as_shown json text) }
+    ensures import { AreCallOf (codes "import") spelled.now.line.words.items → result ≡ 0
+        → (text : List ℕ) × (rows : Option ℕ) × IsImportText rows text
+        × (rows ≢ None → HaveBeginning (codes "--histogram") spelled.now.words.now)
+        × (json : Bool) × (IsTrue json → HaveWord (codes "--json") spelled.now.words.now)
+        × Appends (A.contents out.old) (A.contents out.new) (as_shown json text) }
 {
     let words = spelled.line.words.as_slice();
     match command_line::read(rt.alloc(), words) {
         Ok(request) => {
-            let request = request.with_color(spelled.line.color);
+            let request = request
+                .with_color(spelled.line.color)
+                .as_asked(spelled.words);
             let manner = Manner {
-                screen,
                 details: spelled.line.verbose.is_now(screen.shows_errors),
-                measured: request.asks_stats() && spelled.has_stats,
-                json: request.asks_json(),
+                ..Manner::of(spelled.words, &request, screen)
             };
             carry_out(rt, request, manner, out, err)
         }
@@ -305,10 +319,17 @@ fn finish<H: Files, A: Write>(host: &H, done: WorkDone<'_>, out: &mut A) -> Resu
         Ok(()) => done.take_places(host),
         Err(error) => {
             done.remove(host);
-            let failed = FailedCall::of(SystemCall::Write, &error);
-            Err(Trouble::from(Fault::Io).because(Reason::Output(failed)))
+            Err(unprinted(&error))
         }
     }
+}
+
+/// The failure of a command whose text standard output doesn't take.
+fn unprinted(error: &io::Error) -> Trouble
+    ensures { result.failure ≡ failed_device }
+{
+    let failed = FailedCall::of(SystemCall::Write, error);
+    Trouble::from(Fault::Io).because(Reason::Output(failed))
 }
 
 /// Writes the whole text and flushes it.

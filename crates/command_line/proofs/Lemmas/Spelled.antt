@@ -1,10 +1,23 @@
 -- A list of words as it grows beside the words that it is made of, of which some are picked.
-use Rattle.std.proofs.Common.{◌≡◌, ℕ, ◌+◌, ◌<◌, Bool, false, true, List, [], ◌∷◌, ◌++◌, map, filter, take, length, get_or, IsTrue, bytes_eq, refl, sym, ap, ap₂, ◌∙◌}
-use Rattle.std.proofs.lemmas.Bool.{cond-false}
-use Rattle.std.proofs.lemmas.List.{map_more, map-append, append-nil}
+use Rattle.std.proofs.Common.{◌≡◌, ℕ, ◌+◌, ◌<◌, Bool, false, true, List, [], ◌∷◌, ◌++◌, map, filter, take, length, get_or, IsTrue, bytes_eq, refl, sym, ap, ap₂, ◌∙◌, codes}
+use Rattle.std.proofs.lemmas.Bool.{cond-false, false_from_ne_true, or_from}
+use Rattle.std.proofs.lemmas.List.{append_cancel_left, map_more, map-append, append-nil}
 use Rattle.std.proofs.lemmas.List.Elements.{filter-append}
 use Rattle.std.proofs.lemmas.Slice.Eq.{bytes_eq-Decides}
-use Rattle.command_line.specs.Respelling.{mentions}
+use Rattle.command_line.specs.Respelling.{has_value, mentions}
+
+-- the word is the option and then this text only if what follows the option is the text
+lacks : (option rest word text : List ℕ) → word ≡ option ++ rest → (rest ≡ text → ⊥) → bytes_eq word (option ++ text) ≡ false
+lacks option rest word text is apart =
+    false_from_ne_true (bytes_eq word (option ++ text))
+    (λ e. apart (append_cancel_left option rest text (sym is ∙ (bytes_eq-Decides word (option ++ text)).0 e)))
+
+-- a word has no value if what follows the option is none of the three
+pub without_value : (option rest word : List ℕ) → word ≡ option ++ rest → (rest ≡ codes "=auto" → ⊥) → (rest ≡ codes "=always" → ⊥)
+    → (rest ≡ codes "=never" → ⊥) → has_value option word ≡ false
+without_value option rest word is auto always never =
+    or_from _ _ (or_from _ _ (lacks option rest word (codes "=auto") is auto) (lacks option rest word (codes "=always") is always))
+    (lacks option rest word (codes "=never") is never)
 
 -- a plain option mentions itself
 pub mentions_itself : (option : List ℕ) → IsTrue (mentions option option)

@@ -20,6 +20,11 @@ impl FileId {
         }
     }
 
+    /// Whether it has a number, by which it is known again.
+    pub fn is_known(self) -> bool {
+        self.inode != 0
+    }
+
     /// Whether both are one file. A file without a number is the same as none, not even itself.
     pub fn is_same(self, other: FileId) -> bool {
         self.inode != 0 && self == other

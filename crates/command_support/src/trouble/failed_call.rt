@@ -44,6 +44,8 @@ pub struct FailedCall {
     kind: ErrorKind,
     /// The system's number of the error, if it is from the system.
     number: Option<i32>,
+    /// Whether it was on `-`.
+    is_stream: bool,
 }
 
 impl FailedCall {
@@ -52,6 +54,15 @@ impl FailedCall {
             call,
             kind: error.kind(),
             number: error.raw_os_error(),
+            is_stream: false,
+        }
+    }
+
+    /// The same call, on `-`.
+    pub fn on_stream(self) -> FailedCall {
+        FailedCall {
+            is_stream: true,
+            ..self
         }
     }
 
@@ -61,6 +72,7 @@ impl FailedCall {
             call: SystemCall::Write,
             kind: ErrorKind::WriteZero,
             number: None,
+            is_stream: false,
         }
     }
 
@@ -75,6 +87,7 @@ impl FailedCall {
 impl fmt::Display for FailedCall {
     fn fmt<W: fmt::Write>(&self, f: &mut fmt::Formatter<W>) -> fmt::Result {
         let text = match (self.kind, self.number) {
+            (ErrorKind::NotFound, _) if self.is_stream => "/proc is not mounted",
             (ErrorKind::NotFound, _) => "no such file or folder",
             (ErrorKind::PermissionDenied, _) => "not permitted",
             (ErrorKind::StorageFull | ErrorKind::QuotaExceeded, _) => "no space",

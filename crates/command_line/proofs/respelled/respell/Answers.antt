@@ -1,6 +1,6 @@
-use Rattle.std.proofs.Common.{◌≡◌, ◌∙◌, ap, Bool, false, ◌||◌, not, List, ℕ, IsTrue, codes, rules, subst, filter, map}
+use Rattle.std.proofs.Common.{◌≡◌, ◌∙◌, ap, Bool, false, ◌||◌, not, List, ℕ, IsTrue, codes, rules, filter, map}
 use Rattle.std.specs.Prelude.{string_bytes}
-use Rattle.command_line.specs.Respelling.{mentions}
+use Rattle.command_line.specs.Respelling.{mentions, plain_by}
 use Rattle.command_line.proofs.respelled.respell.Goals as goal
 
 -- a word that mentions one of the options isn't picked
@@ -16,9 +16,15 @@ third a b c is = search rules
 abbrev picks : List ℕ → Bool
 picks w = not (mentions (codes "--verbose") w || mentions (codes "--color") w || mentions (codes "--progress") w)
 
-pub returns : goal.returns
-returns c =
-    let verbose = c.in_ok-first.ensures picks (λ w is. first (mentions (codes "--verbose") w) (mentions (codes "--color") w) (mentions (codes "--progress") w) (subst (λ o. IsTrue (mentions o.now w)) c.of-verbose.ensures is)) in
-    let color = c.in_ok-second.ensures picks (λ w is. second (mentions (codes "--verbose") w) (mentions (codes "--color") w) (mentions (codes "--progress") w) (subst (λ o. IsTrue (mentions o.now w)) c.of-color.ensures is)) in
-    let progress = c.in_ok-spell.ensures picks (λ w is. third (mentions (codes "--verbose") w) (mentions (codes "--color") w) (mentions (codes "--progress") w) (subst (λ o. IsTrue (mentions o.now w)) c.of-progress.ensures is)) in
+pub returns-clause-plain : goal.returns-clause-plain
+returns-clause-plain c =
+    let verbose = c.in_ok-first.ensures.plain in
+    let color = c.in_ok-second.ensures.plain ∙ ap (λ xs. plain_by (codes "--color") (map string_bytes xs)) c.as_slice.ensures.value ∙ ap (plain_by (codes "--color")) verbose in
+    c.in_ok-spell_plainly.ensures.plain ∙ ap (λ xs. plain_by (codes "--progress") (map string_bytes xs)) c.as_slice-2.ensures.value ∙ ap (plain_by (codes "--progress")) color
+
+pub returns-clause-others : goal.returns-clause-others
+returns-clause-others c =
+    let verbose = c.in_ok-first.ensures.others picks (λ w. first (mentions (codes "--verbose") w) (mentions (codes "--color") w) (mentions (codes "--progress") w)) in
+    let color = c.in_ok-second.ensures.others picks (λ w. second (mentions (codes "--verbose") w) (mentions (codes "--color") w) (mentions (codes "--progress") w)) in
+    let progress = c.in_ok-spell_plainly.ensures.others picks (λ w. third (mentions (codes "--verbose") w) (mentions (codes "--color") w) (mentions (codes "--progress") w)) in
     progress ∙ ap (λ xs. filter picks (map string_bytes xs)) c.as_slice-2.ensures.value ∙ color ∙ ap (λ xs. filter picks (map string_bytes xs)) c.as_slice.ensures.value ∙ verbose
