@@ -1,17 +1,17 @@
 /* The calls in place: each makes a list of the regions of a host's words, and lends them by a call that is proved. These lines
  * aren't proved. */
 #include "heap.h"
-#include "pcompact.h"
+#include "lent.h"
 
-/* The limits and faults of docs/FORMATS.md. */
-enum { MOST_REGION_LOG = 20, MOST_REGIONS = 1 << 20, MEMORY = 11, WORKERS = 12, OVERWRITTEN = 15 };
+/* Limits by the names that they have in crates/object_heap/src/limits.rt, and faults of docs/FORMATS.md. */
+enum { MAX_REGION_LOG_V3 = 20, MAX_REGIONS_V3 = 1 << 20, MEMORY = 11, WORKERS = 12, OVERWRITTEN = 15 };
 
 /* How many regions a heap has: none where they don't divide its words or are more than any heap has, or where its live addresses
  * or roots are more than its words. To no regions and no list a lent call answers the fault of such sizes, 3 or 4. */
 static size_t count_regions(size_t word_count, size_t list_count, uint32_t region_log) {
-    if (region_log > MOST_REGION_LOG || list_count > word_count) return 0;
+    if (region_log > MAX_REGION_LOG_V3 || list_count > word_count) return 0;
     size_t size = (size_t)1 << region_log, count = word_count / size;
-    return word_count % size == 0 && count <= MOST_REGIONS ? count : 0;
+    return word_count % size == 0 && count <= MAX_REGIONS_V3 ? count : 0;
 }
 
 /* Lists so many regions, for free_list to free. Returns whether there is memory for the list. */
@@ -55,7 +55,8 @@ uint32_t pcompact_collect_in_place_rooted(uint64_t *words, size_t word_count, ui
     return collect_by(pcompact_collect_lent_rooted, words, word_count, roots, root_count, settings, answer);
 }
 
-typedef pcompact_fault lent_begin(pcompact_words *, size_t, const uint64_t *, size_t, pcompact_settings, pcompact_handle *, size_t);
+typedef pcompact_fault lent_begin(pcompact_words *, size_t, const uint64_t *, size_t, pcompact_settings, pcompact_handle *, size_t,
+                                  uint64_t);
 
 static pcompact_fault begin_by(lent_begin *begin_lent, uint64_t *words, size_t word_count, const uint64_t *list, size_t list_count,
                                pcompact_settings settings, pcompact_handle *handles, size_t worker_count,
@@ -64,7 +65,8 @@ static pcompact_fault begin_by(lent_begin *begin_lent, uint64_t *words, size_t w
     size_t count = count_regions(word_count, list_count, settings.region_log);
     pcompact_regions found;
     if (!make_list(words, count, settings.region_log, &found)) return (pcompact_fault){.number = MEMORY};
-    pcompact_fault fault = begin_lent(found.at, count, list, count > 0 ? list_count : 0, settings, handles, worker_count);
+    pcompact_fault fault = begin_lent(found.at, count, list, count > 0 ? list_count : 0, settings, handles, worker_count,
+                                      place_of_listed(found.at));
     if (fault.number == 0) {
         *regions = found;
     } else {
@@ -76,19 +78,21 @@ static pcompact_fault begin_by(lent_begin *begin_lent, uint64_t *words, size_t w
 pcompact_fault pcompact_begin_in_place(uint64_t *words, size_t word_count, const uint64_t *live, size_t live_count,
                                        pcompact_settings settings, pcompact_handle *handles, size_t worker_count,
                                        pcompact_regions *regions) {
-    return begin_by(pcompact_begin_lent, words, word_count, live, live_count, settings, handles, worker_count, regions);
+    return begin_by(pcompact_begin_lent_at, words, word_count, live, live_count, settings, handles, worker_count, regions);
 }
 
 pcompact_fault pcompact_begin_in_place_rooted(uint64_t *words, size_t word_count, const uint64_t *roots, size_t root_count,
                                               pcompact_settings settings, pcompact_handle *handles, size_t worker_count,
                                               pcompact_regions *regions) {
-    return begin_by(pcompact_begin_lent_rooted, words, word_count, roots, root_count, settings, handles, worker_count, regions);
+    return begin_by(pcompact_begin_lent_rooted_at, words, word_count, roots, root_count, settings, handles, worker_count,
+                    regions);
 }
 
 uint32_t pcompact_end_in_place(pcompact_handle *handles, size_t worker_count, pcompact_regions *regions, uint64_t *list,
                                size_t list_count, pcompact_answer *answer) {
     if (!regions->at) return refuse(WORKERS, answer);
-    uint32_t fault = pcompact_end_lent(handles, worker_count, regions->at, regions->count, list, list_count, answer);
+    uint32_t fault = pcompact_end_lent_at(handles, worker_count, regions->at, regions->count, list, list_count, answer,
+                                          place_of_listed(regions->at));
     if (fault == 0 || fault == OVERWRITTEN) free_list(regions);
     return fault;
 }

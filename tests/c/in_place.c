@@ -251,23 +251,6 @@ static void refuse_ends(void) {
     refuse_end("a second end", &found, &s, 3, 12);
 }
 
-/* The handles of a begin that copies, with the regions of one in place: fault 15, after which there are no regions. Their own
- * handles still have the words, which an end over lent ones gives back. */
-static void end_copies(void) {
-    session s = no_session, copies = no_session;
-    pcompact_words parts[LEAST_WORDS / SIZE] = {{false, NULL, 0}};
-    pcompact_answer answer;
-    found = before[0];
-    second = before[0];
-    check(begin(&found, &s, 2) == 0, "a begin in place", 2);
-    check(pcompact_begin(second.words, second.word_count, second.list, second.list_count, settings, copies.handles, 2).number == 0,
-          "a begin that copies", 2);
-    copies.regions = s.regions;
-    check(end(&second, &copies, 2, &answer) == 15 && answer.fault.number == 15 && is_over(&copies), "an end of copies", 15);
-    check(pcompact_end_lent(s.handles, 2, parts, LEAST_WORDS / SIZE, found.list, found.list_count, &answer) == 0, "a lent end", 0);
-    check(is_same(&found, &wanted[0]) && parts[0].at == found.words && held_handles(&s) == 0, "what it leaves", 0);
-}
-
 /* With roots a heap has at most 1048576 regions, and a region at most 1048576 words. More are refused as by the call that copies. */
 static void refuse_regions(void) {
     const size_t most = 8 * (size_t)MOST_REGIONS;
@@ -360,7 +343,6 @@ int main(void) {
     refuse_begins(0);
     refuse_begins(1);
     refuse_ends();
-    end_copies();
     refuse_regions();
     collect_full(false);
     collect_full(true);

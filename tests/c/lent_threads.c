@@ -268,17 +268,6 @@ static void refuse_ends(void) {
     refuse_end("a second end", &found, handles, 3, 12);
 }
 
-/* A session over a copy has no words to put back. */
-static void refuse_copies(void) {
-    pcompact_handle handles[2] = {{false, NULL}};
-    pcompact_answer answer;
-    make_heap(&after, LEAST_WORDS, LEAST_CELLS, false);
-    check(pcompact_begin(after.words, after.word_count, after.list, after.list_count, settings, handles, 2).number == 0, "a copy", 2);
-    lay_out(0, &found);
-    for (size_t r = 0; r < found.region_count; r++) found.parts[r] = (pcompact_words){false, NULL, 0};
-    check(end(&found, handles, 2, &answer) == 15 && held_handles(handles, 2) == 0, "an end of a copy", 15);
-}
-
 /* A begin of which this many allocations succeed. Whether one was refused. */
 static bool begin_with(int kind, long allocations) {
     pcompact_handle handles[3] = {{false, NULL}};
@@ -338,7 +327,6 @@ int main(void) {
     refuse_begins(0);
     refuse_begins(1);
     refuse_ends();
-    refuse_copies();
     refuse_memory("begin", begin_with);
     refuse_memory("end", end_with);
     check(blocks_held == 0, "a block is left in all", (size_t)blocks_held);

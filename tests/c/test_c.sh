@@ -41,13 +41,26 @@ refuses_half() {
     ! "${CC:-cc}" "-I$library" "$room/half.c" "$library/libpcompact.a" -o "$room/half"
 }
 
+# Whether a limit has the value in C that it has in the crates.
+has_limit() {
+    python3 -c 'if True:
+        import pathlib, re, sys
+        def value_of(file):
+            found = re.search(rf"\b{sys.argv[1]}\b[^=]*= ([^,;]+)", pathlib.Path(file).read_text())
+            return eval(found[1])
+        sys.exit(value_of("c/in_place.c") != value_of("crates/object_heap/src/limits.rt"))' "$1"
+}
+
 find_needs
+try has_limit MAX_REGION_LOG_V3
+try has_limit MAX_REGIONS_V3
 for caller in hostile refusals; do
     build "$caller" "tests/c/$caller.c"
 done
 build calls -Itests/c tests/c/{calls,checks}.c
 build image_calls -Itests/c tests/c/{image_calls,checks,refusing_heap}.c
 build lent -Itests/c tests/c/{lent,refusing_heap}.c
+build ends -Itests/c tests/c/{ends,refusing_heap}.c
 for caller in threads lent_threads in_place; do
     build "$caller" -pthread -Itests/c tests/c/{"$caller",refusing_heap}.c
     build_c "$caller-raced" -g -fsanitize=thread -pthread -Itests/c tests/c/{"$caller",refusing_heap}.c
@@ -59,6 +72,7 @@ for example in base rooted; do
 done
 run hostile
 run refusals
+run ends
 try "$room/lent" 1000
 run lent 100
 for caller in threads lent_threads in_place; do

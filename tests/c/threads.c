@@ -161,14 +161,34 @@ static void collect_in_turns(int kind, size_t workers) {
     check(are_same(&found.heap, &wanted[kind].heap), "the heap of turns", workers);
 }
 
-/* An end with these handles must return this fault and leave the words and the list. No handle is held then. */
-static void refuse_end(const char *what, pcompact_handle *handles, size_t workers, uint32_t fault) {
+/* An end with these handles, which aren't all those of one begin, must leave handles, words and list. */
+static void refuse_end(const char *what, pcompact_handle *handles, size_t workers) {
+    pcompact_handle same[MOST + 1];
+    memcpy(same, handles, workers * sizeof *handles);
     found.heap = before[0];
     memset(&found.answer, 0x5a, sizeof found.answer);
-    check(end(&found, handles, workers) == fault && found.answer.fault.number == fault, what, fault);
-    check(found.answer.new_top == 0 && found.answer.filled_regions == 0, what, fault);
-    check(are_same(&found.heap, &before[0]), what, fault);
-    check(are_free(handles, workers), what, fault);
+    check(end(&found, handles, workers) == 12 && found.answer.fault.number == 12, what, workers);
+    check(found.answer.new_top == 0 && found.answer.filled_regions == 0, what, workers);
+    check(are_same(&found.heap, &before[0]) && are_same_handles(same, handles, workers), what, workers);
+}
+
+static void end_well(int kind, pcompact_handle *handles, size_t workers) {
+    found.heap = before[kind];
+    check(end(&found, handles, workers) == 0 && are_same(&found.heap, &wanted[kind].heap), "an end after that", workers);
+    check(are_free(handles, workers), "free handles", workers);
+}
+
+/* An end with other words or another list than those of the begin must leave these. No handle is held then. */
+static void lose_end(const char *what, size_t word_count, size_t list_count) {
+    pcompact_handle handles[2] = {{false, NULL}};
+    check(begin(&before[0], handles, 2).number == 0, "a begin of two", 2);
+    found.heap = before[0];
+    found.heap.word_count = word_count;
+    found.heap.list_count = list_count;
+    check(end(&found, handles, 2) == 4 && are_free(handles, 2), what, 4);
+    found.heap.word_count = before[0].word_count;
+    found.heap.list_count = before[0].list_count;
+    check(are_same(&found.heap, &before[0]), what, 4);
 }
 
 static void refuse_begin(const char *what, const heap *it, pcompact_handle *handles, size_t workers, uint32_t fault) {
@@ -184,8 +204,8 @@ static void refuse_handles_of_none(void) {
     memset(handles, 0, sizeof handles);
     check(pcompact_work(&handles[0], 5) == PCOMPACT_NOT_HELD, "work on a handle that isn't held", 0);
     check(pcompact_work_all(&handles[0]) == PCOMPACT_NOT_HELD, "all work on a handle that isn't held", 0);
-    refuse_end("an end of handles that aren't held", handles, 3, 12);
-    refuse_end("an end of no handles", handles, 0, 12);
+    refuse_end("an end of handles that aren't held", handles, 3);
+    refuse_end("an end of no handles", handles, 0);
     refuse_begin("a begin of no handles", &before[0], handles, 0, 12);
     refuse_begin("a begin of 65 handles", &before[0], handles, MOST + 1, 12);
     static heap wrong;
@@ -206,32 +226,21 @@ static void refuse_held_handles(void) {
     refuse_begin("a begin over held handles", &before[0], handles, 3, 12);
     refuse_begin("a begin over one held handle", &before[1], handles + 2, 2, 12);
     check(pcompact_work_all(&handles[1]) == PCOMPACT_SETTLED, "work after a begin that is refused", 1);
-    found.heap = before[0];
-    check(end(&found, handles, 3) == 0 && are_same(&found.heap, &wanted[0].heap), "an end after that", 3);
-    refuse_end("a second end", handles, 3, 12);
+    end_well(0, handles, 3);
+    refuse_end("a second end", handles, 3);
 }
 
 static void refuse_ends(void) {
-    pcompact_handle handles[4] = {{false, NULL}};
-    check(begin(&before[0], handles, 2).number == 0 && begin(&before[0], handles + 2, 2).number == 0, "two begins", 2);
-    refuse_end("an end of two sessions", handles, 4, 12);
-    check(begin(&before[0], handles, 2).number == 0 && begin(&before[1], handles + 2, 2).number == 0, "two more", 2);
-    refuse_end("an end of handles of two sessions", handles + 1, 2, 12);
-    refuse_end("an end of one of two handles", handles, 1, 12);
-    refuse_end("an end of the other one", handles + 3, 1, 12);
-    check(begin(&before[0], handles, 2).number == 0, "a begin of two", 2);
-    refuse_end("an end of one handle too many", handles, 3, 12);
-    check(begin(&before[0], handles, 2).number == 0, "a begin of two", 2);
-    found.heap = before[0];
-    found.heap.word_count--;
-    check(end(&found, handles, 2) == 4 && are_free(handles, 2), "an end with fewer words", 4);
-    found.heap.word_count++;
-    check(are_same(&found.heap, &before[0]), "the heap of an end with fewer words", 4);
-    check(begin(&before[0], handles, 2).number == 0, "a begin of two", 2);
-    found.heap.list_count++;
-    check(end(&found, handles, 2) == 4 && are_free(handles, 2), "an end with a longer list", 4);
-    found.heap.list_count--;
-    check(are_same(&found.heap, &before[0]), "the heap of an end with a longer list", 4);
+    pcompact_handle handles[5] = {{false, NULL}};
+    check(begin(&before[0], handles, 2).number == 0 && begin(&before[1], handles + 2, 2).number == 0, "two begins", 2);
+    refuse_end("an end of two sessions", handles, 4);
+    refuse_end("an end of handles of two sessions", handles + 1, 2);
+    refuse_end("an end of one of two handles", handles, 1);
+    refuse_end("an end of one handle too many", handles + 2, 3);
+    end_well(0, handles, 2);
+    end_well(1, handles + 2, 2);
+    lose_end("an end with fewer words", before[0].word_count - 1, before[0].list_count);
+    lose_end("an end with a longer list", before[0].word_count, before[0].list_count + 1);
 }
 
 /* A begin of which this many allocations succeed. Whether one was refused. */

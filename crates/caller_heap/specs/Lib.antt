@@ -1,3 +1,4 @@
 pub mod Collected
 pub mod HeapWords
 pub mod Lent
+pub mod Parts

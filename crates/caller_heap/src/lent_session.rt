@@ -10,12 +10,15 @@ ghost use Rattle.collector.specs.Collections.{figures_of};
 ghost use Rattle.collector.specs.Sessions.{image_of};
 ghost use Rattle.caller_heap.specs.HeapWords.{heap_bytes};
 ghost use Rattle.caller_heap.specs.Lent.{AreBack, AreRegions, HoldImage, IfKept, IfLost, IsGone, IsHeld, blocks_of, heap_in, held, image_in, content, words_in};
+ghost use Rattle.caller_heap.specs.Parts.{IsPartOf};
+ghost use Rattle.caller_heap.specs.declared.part.Origin.TheVariants.{Lent};
 
 use crate::collection::put_tail;
 use crate::lending::{keep_all, lend_all};
 use crate::lent_collection::Failure;
+use crate::part::{Origin, Part};
 use crate::settings::HeapSettings;
-use crate::shares::boxed_shares;
+use crate::shares::boxed_parts;
 use collector::{Figures, Refusal, Share};
 use heap_image::{Fault, RefusedRegions, UncheckedParts, Version, image_of_regions};
 use raw_region::HostWords;
@@ -57,28 +60,29 @@ pub(crate) fn lend_parts(
     })
 }
 
-/// The shares of so many workers in the compaction of the image of these parts, which were lent from these words. After a
-/// fault the regions are back, but for fault 15.
+/// The workers' parts in the compaction of the image of these unchecked parts, which were lent from these words, in a list at
+/// this place. After a fault the regions are back, but for fault 15.
 pub(crate) fn begin_parts(
     alloc: Global,
     words: &mut [HostWords],
     parts: UncheckedParts,
     workers: u32,
-) -> Result<Vec<Box<Share, Global>>, Fault>
+    place: u64,
+) -> Result<Vec<Box<Part, Global>>, Fault>
     requires whole { AreBlocks parts.region_log parts.regions.items }
     requires gone { All IsGone words.old }
     requires count { length parts.regions.items ≡ length words.old }
     ensures valid { OnOk result (IsValid (image_in parts)) }
     ensures text { OnOk result (text (image_in parts) ≡ listed_text parts.version (numbers_in parts)) }
-    ensures image { IfOk result (λ shares. All (λ share. image_of share.value ≡ image_in parts) shares.items) }
-    ensures count { IfOk result (λ shares. vec_len shares ≡ workers) }
+    ensures parts { IfOk result (λ all. All (λ part. IsPartOf (image_in parts) (Lent place) part.value) all.items) }
+    ensures count { IfOk result (λ all. vec_len all ≡ workers) }
     ensures gone { OnOk result (All IsGone words.new) }
     ensures back { IfErr result (λ fault. (map content words.new ≡ map held parts.regions.items) ⊎ IsOverwritten fault) }
     ensures fault { IfErr result (λ fault. (fault ≡ Workers) ⊎ ((fault ≡ Memory)
         ⊎ ((first_fault (listed_text parts.version (numbers_in parts)) ≡ Some fault) ⊎ IsOverwritten fault))) }
 {
-    match share_parts(alloc, parts, workers) {
-        Ok(shares) => Ok(shares),
+    match share_parts(alloc, parts, workers, place) {
+        Ok(all) => Ok(all),
         Err(Failure::Kept(refused)) => {
             keep_all(words, refused.regions)?;
             Err(refused.fault)
@@ -87,17 +91,18 @@ pub(crate) fn begin_parts(
     }
 }
 
-/// The shares of so many workers in the compaction of the image of these parts.
+/// The workers' parts in the compaction of the image of these unchecked parts, which were lent in a list at this place.
 fn share_parts(
     alloc: Global,
     parts: UncheckedParts,
     workers: u32,
-) -> Result<Vec<Box<Share, Global>>, Failure>
+    place: u64,
+) -> Result<Vec<Box<Part, Global>>, Failure>
     requires { AreBlocks parts.region_log parts.regions.items }
     ensures valid { OnOk result (IsValid (image_in parts)) }
     ensures text { OnOk result (text (image_in parts) ≡ listed_text parts.version (numbers_in parts)) }
-    ensures image { IfOk result (λ shares. All (λ share. image_of share.value ≡ image_in parts) shares.items) }
-    ensures count { IfOk result (λ shares. vec_len shares ≡ workers) }
+    ensures parts { IfOk result (λ all. All (λ part. IsPartOf (image_in parts) (Lent place) part.value) all.items) }
+    ensures count { IfOk result (λ all. vec_len all ≡ workers) }
     ensures kept { IfErr result (λ failure. IfKept failure (λ refused. (refused.regions.items ≡ parts.regions.items)
         × ((refused.fault ≡ Workers) ⊎ ((refused.fault ≡ Memory)
         ⊎ (first_fault (listed_text parts.version (numbers_in parts)) ≡ Some refused.fault))))) }
@@ -107,8 +112,8 @@ fn share_parts(
         Ok(image) => image,
         Err(refused) => return Err(Failure::Kept(refused)),
     };
-    match boxed_shares(alloc, image, workers) {
-        Ok(shares) => Ok(shares),
+    match boxed_parts(alloc, image, workers, Origin::Lent(place)) {
+        Ok(all) => Ok(all),
         Err(Refusal::Kept(image, fault)) => {
             let regions = image.into_parts().regions;
             Err(Failure::Kept(RefusedRegions { regions, fault }))

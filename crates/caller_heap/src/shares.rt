@@ -1,33 +1,36 @@
-//! The workers' shares in a collection, each in a box of its own.
+//! The workers' parts in a collection, each in a box of its own.
 ghost use Rattle.std.specs.Prelude.{◌≡◌, ◌⊎◌, All, Some, IfOk, IfErr, IfSome, vec_len};
 ghost use Rattle.object_heap.specs.HeapImage.{HeapImage};
 ghost use Rattle.image_streams.specs.declared.fault.Fault.TheVariants.{Memory, Workers};
 ghost use Rattle.fill.specs.FillFaults.{IsOverwritten};
 ghost use Rattle.collector.specs.Collections.{IfKept, IfLost};
 ghost use Rattle.collector.specs.Sessions.{image_of};
+ghost use Rattle.caller_heap.specs.Parts.{IsPartOf};
 
+use crate::part::{Origin, Part};
 use collector::{Refusal, Session, Share};
 use heap_image::{Fault, Image};
 use std::alloc::Global;
 
-/// The shares of so many workers in the compaction of an image, each in a box of its own, which a host can keep by its
-/// place.
+/// The parts of so many workers in the compaction of an image, whose words come from there, each in a box of its own, which
+/// a host can keep by its place.
 ///
 /// Returns `Kept` with fault 12 if there aren't 1 to 64 workers, or 11 if memory runs out, and `Lost` with fault 15 if a
 /// cell contradicts that no region has been written.
-pub fn boxed_shares(
+pub fn boxed_parts(
     alloc: Global,
     image: Image,
     workers: u32,
-) -> Result<Vec<Box<Share, Global>>, Refusal>
+    origin: Origin,
+) -> Result<Vec<Box<Part, Global>>, Refusal>
     ensures count { IfOk result (λ boxes. vec_len boxes ≡ workers) }
-    ensures image { IfOk result (λ boxes. All (λ share. image_of share.value ≡ image) boxes.items) }
+    ensures parts { IfOk result (λ boxes. All (λ part. IsPartOf image origin part.value) boxes.items) }
     ensures kept { IfErr result (λ refusal. IfKept refusal
         (λ back fault. (back ≡ image) × ((fault ≡ Memory) ⊎ (fault ≡ Workers)))) }
     ensures lost { IfErr result (λ refusal. IfLost refusal IsOverwritten) }
 {
     let shares = Session::prepare(alloc, image, workers)?;
-    match boxed(alloc, shares) {
+    match boxed(alloc, shares, origin) {
         Ok(boxes) => Ok(boxes),
         Err(back) => Err(refusal_of(back)),
     }
@@ -44,12 +47,16 @@ fn refusal_of(back: Option<Image>) -> Refusal
     }
 }
 
-/// Moves each share into a box of its own. Without memory it returns the image of a session whose shares these all are,
-/// if no region has been written.
-fn boxed(alloc: Global, mut shares: Vec<Share>) -> Result<Vec<Box<Share, Global>>, Option<Image>>
+/// Moves each share into a part, in a box of its own. Without memory it returns the image of a session whose shares these
+/// all are, if no region has been written.
+fn boxed(
+    alloc: Global,
+    mut shares: Vec<Share>,
+    origin: Origin,
+) -> Result<Vec<Box<Part, Global>>, Option<Image>>
     ensures count { IfOk result (λ boxes. vec_len boxes ≡ vec_len shares) }
-    ensures image { (image : HeapImage) → All (λ share. image_of share ≡ image) shares.items
-        → IfOk result (λ boxes. All (λ share. image_of share.value ≡ image) boxes.items) }
+    ensures parts { (image : HeapImage) → All (λ share. image_of share ≡ image) shares.items
+        → IfOk result (λ boxes. All (λ part. IsPartOf image origin part.value) boxes.items) }
     ensures kept { (image : HeapImage) → All (λ share. image_of share ≡ image) shares.items
         → IfErr result (λ back. IfSome back (λ given. given ≡ image)) }
 {
@@ -57,12 +64,12 @@ fn boxed(alloc: Global, mut shares: Vec<Share>) -> Result<Vec<Box<Share, Global>
         return Err(image_of_all(shares));
     };
     while let Some(share) = shares.pop() {
-        match Box::new(alloc, share) {
+        match Box::new(alloc, Part { share, origin }) {
             Ok(made) => boxes.push_reserved(made),
             Err(refused) => {
                 drop(boxes);
                 drop(shares);
-                return Err(refused.value.give_back());
+                return Err(refused.value.share.give_back());
             }
         }
     }

@@ -4,6 +4,7 @@ mod begin;
 mod begin_lent;
 mod begin_lent_rooted;
 mod begin_rooted;
+pub(crate) mod counting;
 pub(crate) mod dealing;
 mod end;
 mod end_lent;

@@ -8,9 +8,9 @@ use Rattle.object_heap.specs.HeapImage.{HeapImage, heap_words, word_at, roots_or
 use Rattle.verification.specs.Difference.{AreAlike}
 use Rattle.verification.specs.Verdict.{HaveSameShape}
 
-same_image : (x y : HeapImage) → x.version ≡ y.version → x.region_log ≡ y.region_log → x.allowance ≡ y.allowance → x.words ≡ y.words
+same_image : (x y : HeapImage) → x.layout ≡ y.layout → x.version ≡ y.version → x.region_log ≡ y.region_log → x.allowance ≡ y.allowance → x.words ≡ y.words
     → x.live ≡ y.live → x.roots ≡ y.roots → x ≡ y
-same_image x y v a b c d e = λ i. record { version = v i; region_log = a i; allowance = b i; words = c i; live = d i; roots = e i }
+same_image x y l v a b c d e = λ i. record { version = v i; layout = l i; region_log = a i; allowance = b i; words = c i; live = d i; roots = e i }
 
 -- the same numbers, where both images have roots or neither
 same_roots : (o p : Option (List ℕ)) → is_some o ≡ is_some p → roots_or [] o ≡ roots_or [] p → o ≡ p
@@ -32,7 +32,7 @@ same_lists a b wanted found e f alike = subst (λ xs. AreSameLists xs found) e (
 module _ (wanted found : HeapImage) (h : HaveSameShape wanted found) where
   pub all_alike : AreAlike (word_at wanted) (word_at found) (heap_words wanted) → AreSameLists wanted.live found.live
       → AreSameLists (roots_of wanted) (roots_of found) → found ≡ wanted
-  all_alike words live roots = same_image found wanted h.version h.region_log h.allowance
+  all_alike words live roots = same_image found wanted h.layout h.version h.region_log h.allowance
       (lists_alike wanted.words found.words h.words words)
       (lists_alike wanted.live found.live h.live live)
       (same_roots found.roots wanted.roots h.rooted (lists_alike (roots_of wanted) (roots_of found) h.roots roots))

@@ -1,4 +1,4 @@
--- A share may go to another thread.
+-- A part may go to another thread.
 use denote.Param.Send.{IsSend, IsSync, AllSend, AllSync, struct_send, struct_sync, recorded_send, recorded_sync, sendable}
 use denote.Struct.Declared as declared
 use denote.Struct.Struct.{Struct}
@@ -18,6 +18,8 @@ use Rattle.ready_queues.proofs.ready.Thief.TheSendSync as thief
 use Rattle.collector.proofs.workers.worker.Worker.TheSendSync as worker
 use Rattle.collector.specs.contracts.session.Session as Session
 use Rattle.collector.specs.contracts.session.share.Share as Share
+use Rattle.caller_heap.specs.contracts.part.Part as Part
+use Rattle.caller_heap.proofs.part.Origin.TheSendSync as origin
 
 survey_send : IsSend Survey.the_row
 survey_send = search (crosses, sendable) depth 60 fits 20000
@@ -46,8 +48,13 @@ session_sync =
 session_shared : IsSend (Arc.the_row Session.the_row Heap.the_row ghosts)
 session_shared = heap.Arc-send Session.the_row session_send session_sync
 
-pub share_send : IsSend Share.the_row
+share_send : IsSend (Share.the_field).row
 share_send =
     let T = Share.the_type in
     let all : AllSend (declared.fields T) = (session_shared, (worker.the_field_send Pass.the_row pass.the_send, (search sendable, tt))) in
-    recorded_send (Struct (declared.shape T)) T.D T.to T.to_one (struct_send (declared.shape T) all)
+    struct_send (declared.shape T) all
+
+pub part_send : IsSend Part.the_row
+part_send =
+    let T = Part.the_type in
+    recorded_send (Struct (declared.shape T)) T.D T.to T.to_one (struct_send (declared.shape T) (share_send, (origin.the_field_send, tt)))

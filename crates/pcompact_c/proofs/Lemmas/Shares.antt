@@ -1,8 +1,8 @@
 -- Lists whose elements are changed in turn, and lists that end with an element.
 use Rattle.std.proofs.Common.{◌≡◌, ℕ, zero, suc, ◌+◌, ◌≤◌, ◌<◌, List, [], ◌∷◌, ◌++◌, length, take, drop, set, get_or, refl, sym, ap, subst, ◌∙◌, arith}
-use Rattle.std.specs.Prelude.{All, Option, Some, is_some, true, map}
+use Rattle.std.specs.Prelude.{All, Some, map}
 use Rattle.std.proofs.lemmas.List.{drop-drop, drop-set-lt, get_or-drop, take_all, take_more_set}
-use Rattle.std.proofs.lemmas.List.Elements.{All-nil, All-cons, All-push, All-pop}
+use Rattle.std.proofs.lemmas.List.Elements.{All-push, All-pop}
 
 module _ {X : Type 0} where
   -- the elements behind a change are as they were
@@ -37,13 +37,6 @@ ends f g (x ∷ []) [] y same = ([], x, refl, ap (λ zs. get_or zs 0 (f x)) same
 ends f g (x ∷ w ∷ ws) [] y same = absurd (omega (arith, ap length same))
 ends f g (x ∷ xs) (z ∷ zs) y same =
     let rest = ends f g xs zs y (ap (drop 1) same) in (x ∷ rest.0, rest.1, ap (λ all. x ∷ all) rest.2, rest.3)
-
--- where the image is all some, each element's is
-pub each_some : {X Y : Type 0} (f : X → Option Y) (xs : List X) (ys : List Y) → map f xs ≡ map Some ys → All (λ x. is_some (f x) ≡ true) xs
-each_some f [] ys same = All-nil (λ x. is_some (f x) ≡ true)
-each_some f (x ∷ xs) [] same = absurd (omega (arith, ap length same))
-each_some f (x ∷ xs) (y ∷ ys) same =
-    All-cons (λ z. is_some (f z) ≡ true) x xs (ap (λ zs. is_some (get_or zs 0 (f x))) same) (each_some f xs ys (ap (drop 1) same))
 
 -- a change that the function doesn't show
 pub same_at : {X Y : Type 0} (f : X → Y) (xs : List X) (i : ℕ) (x d : X) → i < length xs → f x ≡ f (get_or xs i d) → map f (set xs i x) ≡ map f xs

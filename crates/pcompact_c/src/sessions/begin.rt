@@ -1,12 +1,13 @@
 //! The begin of a collection by several threads of a heap with a live list.
-ghost use Rattle.std.specs.Prelude.{◌≡◌, ◌<◌, ◌≤◌, Some, false, All, length};
+ghost use Rattle.std.specs.Prelude.{◌≡◌, ◌<◌, ◌≤◌, false, All, length};
 ghost use Rattle.image_streams.specs.declared.fault.Fault.{Fault};
 ghost use Rattle.object_heap.specs.declared.version.Version.TheVariants.{One};
 ghost use Rattle.object_heap.specs.HeapImage.{HeapImage, IsValid};
 ghost use Rattle.heap_image.specs.ImageText.{text};
 ghost use Rattle.caller_heap.specs.HeapWords.{heap_bytes};
+ghost use Rattle.caller_heap.specs.declared.part.Origin.TheVariants.{Copied};
 ghost use Rattle.pcompact_c.specs.Faults.{IsOf};
-ghost use Rattle.pcompact_c.specs.Handles.{image_in, IsWhyNotBegun};
+ghost use Rattle.pcompact_c.specs.Handles.{IsHandleOf, IsWhyNotBegun};
 
 use crate::answers::fault::PcompactFault;
 use crate::sessions::dealing::{are_ready, deal};
@@ -30,7 +31,7 @@ pub extern "C" fn pcompact_begin(
 ) -> PcompactFault
     ensures begun { result.number ≡ 0 → (image : HeapImage) × IsValid image
         × (heap_bytes One settings words.now live.now ≡ text image)
-        × All (λ h. image_in h ≡ Some image) handles.new }
+        × All (IsHandleOf image Copied) handles.new }
     ensures count { result.number ≡ 0 → (1 ≤ length handles.old) × (length handles.old ≤ 64) }
     ensures free { result.number ≡ 0 → All (λ h. h.0 ≡ false) handles.old }
     ensures kept { 0 < result.number → handles.new ≡ handles.old }

@@ -1,5 +1,5 @@
 //! The begin of a collection by several threads of a heap with a live list, in words that a host lends.
-ghost use Rattle.std.specs.Prelude.{◌≡◌, ◌<◌, ◌≤◌, ◌⊎◌, Some, false, All, length};
+ghost use Rattle.std.specs.Prelude.{◌≡◌, ◌<◌, ◌≤◌, ◌⊎◌, false, All, length};
 ghost use Rattle.image_streams.specs.declared.fault.Fault.{Fault};
 ghost use Rattle.image_streams.specs.declared.fault.Fault.TheVariants.{Workers};
 ghost use Rattle.object_heap.specs.declared.version.Version.TheVariants.{One};
@@ -7,8 +7,9 @@ ghost use Rattle.object_heap.specs.HeapImage.{HeapImage, IsValid};
 ghost use Rattle.heap_image.specs.ImageText.{text};
 ghost use Rattle.caller_heap.specs.HeapWords.{heap_bytes};
 ghost use Rattle.caller_heap.specs.Lent.{AreBack, IsGone, IsWhyLentKept, heap_in};
+ghost use Rattle.caller_heap.specs.declared.part.Origin.TheVariants.{Lent};
 ghost use Rattle.pcompact_c.specs.Faults.{IsOf};
-ghost use Rattle.pcompact_c.specs.Handles.{image_in};
+ghost use Rattle.pcompact_c.specs.Handles.{IsHandleOf};
 
 use crate::answers::fault::PcompactFault;
 use crate::sessions::dealing::{are_ready, hand_out};
@@ -19,23 +20,25 @@ use raw_region::HostWords;
 use std::alloc::Global;
 
 /// Begins a collection of the heap with these words, a region each from address 0 up, and these live addresses by as many
-/// workers as there are handles, and gives each handle a worker's part. None of the words is held then. Returns the fault;
-/// after one handles and words are as they were, but words for fault 15, after which nothing is promised of them.
+/// workers as there are handles, and gives each handle a worker's part. `place` is where the host has the list of these words:
+/// the end must tell it again. None of the words is held then. Returns the fault; after one handles and words are as they
+/// were, but words for fault 15, after which nothing is promised of them.
 ///
 /// The fault is 12 if there aren't 1 to 64 handles or one is held, or the first fault of the bytes of its image, 3, 4 or 6 to 9,
 /// or 4 if some words aren't held or are more or fewer than a region has, or 11 if memory runs out, or 15 if a cell
 /// contradicts the order of work.
 #[unsafe(no_mangle)]
-pub extern "C" fn pcompact_begin_lent(
+pub extern "C" fn pcompact_begin_lent_at(
     alloc: Global,
     words: &mut [HostWords],
     live: &[u64],
     settings: HeapSettings,
     handles: &mut [PcompactHandle],
+    place: u64,
 ) -> PcompactFault
     ensures begun { result.number ≡ 0 → (image : HeapImage) × IsValid image
         × (heap_bytes One settings (heap_in words.old) live.now ≡ text image)
-        × All (λ h. image_in h ≡ Some image) handles.new }
+        × All (IsHandleOf image (Lent place)) handles.new }
     ensures count { result.number ≡ 0 → (1 ≤ length handles.old) × (length handles.old ≤ 64) }
     ensures free { result.number ≡ 0 → All (λ h. h.0 ≡ false) handles.old }
     ensures gone { result.number ≡ 0 → All IsGone words.new }
@@ -47,9 +50,9 @@ pub extern "C" fn pcompact_begin_lent(
     if !are_ready(handles) {
         return PcompactFault::of(Fault::Workers);
     }
-    match begin_lent_words(alloc, settings, words, live, handles.len() as u32) {
-        Ok(shares) => {
-            hand_out(shares, handles);
+    match begin_lent_words(alloc, settings, words, live, handles.len() as u32, place) {
+        Ok(parts) => {
+            hand_out(parts, handles);
             PcompactFault::NONE
         }
         Err(fault) => PcompactFault::of(fault),

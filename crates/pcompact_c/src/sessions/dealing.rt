@@ -2,14 +2,16 @@
 ghost use Rattle.std.specs.Prelude.{◌≡◌, ◌⊎◌, ◌<◌, ◌≤◌, Some, false, IsTrue, All, length, vec_len};
 ghost use Rattle.object_heap.specs.HeapImage.{HeapImage};
 ghost use Rattle.image_streams.specs.declared.fault.Fault.TheVariants.{Memory, Workers};
-ghost use Rattle.collector.specs.Sessions.{image_of};
+ghost use Rattle.caller_heap.specs.Parts.{IsPartOf};
+ghost use Rattle.caller_heap.specs.declared.part.Origin.{Origin};
+ghost use Rattle.caller_heap.specs.declared.part.Origin.TheVariants.{Copied};
 ghost use Rattle.pcompact_c.specs.Faults.{IsOf};
-ghost use Rattle.pcompact_c.specs.Handles.{image_in};
+ghost use Rattle.pcompact_c.specs.Handles.{IsHandleOf};
 
 use crate::answers::fault::PcompactFault;
 use crate::sessions::handle::PcompactHandle;
-use caller_heap::boxed_shares;
-use collector::{Refusal, Share};
+use caller_heap::{Origin, Part, boxed_parts};
+use collector::Refusal;
 use heap_image::{Fault, Image};
 use std::alloc::Global;
 
@@ -38,18 +40,18 @@ fn are_free(handles: &mut [PcompactHandle]) -> bool
     true
 }
 
-/// Gives each handle a worker's part in the compaction of an image. Returns fault 11 if memory runs out, and then the
-/// handles are as they were.
+/// Gives each handle a worker's part in the compaction of an image, whose words are a copy. Returns fault 11 if memory runs
+/// out, and then the handles are as they were.
 pub(crate) fn deal(alloc: Global, image: Image, handles: &mut [PcompactHandle]) -> PcompactFault
     requires few { length handles.old ≤ 64 }
     requires free { All (λ h. h.0 ≡ false) handles.old }
-    ensures image { result.number ≡ 0 → All (λ h. image_in h ≡ Some image) handles.new }
+    ensures parts { result.number ≡ 0 → All (IsHandleOf image Copied) handles.new }
     ensures kept { 0 < result.number → handles.new ≡ handles.old }
     ensures fault { 0 < result.number → IsOf Workers result ⊎ IsOf Memory result }
 {
-    match boxed_shares(alloc, image, handles.len() as u32) {
-        Ok(shares) => {
-            hand_out(shares, handles);
+    match boxed_parts(alloc, image, handles.len() as u32, Origin::Copied) {
+        Ok(parts) => {
+            hand_out(parts, handles);
             PcompactFault::NONE
         }
         Err(refusal) => PcompactFault::of(fault_of(refusal)),
@@ -66,16 +68,16 @@ fn fault_of(refusal: Refusal) -> Fault
     }
 }
 
-/// Gives each handle one of as many shares.
-pub(crate) fn hand_out(mut shares: Vec<Box<Share, Global>>, handles: &mut [PcompactHandle])
+/// Gives each handle one of as many parts.
+pub(crate) fn hand_out(mut parts: Vec<Box<Part, Global>>, handles: &mut [PcompactHandle])
     requires free { All (λ h. h.0 ≡ false) handles.old }
-    requires count { vec_len shares ≡ length handles.old }
-    ensures image { (image : HeapImage) → All (λ share. image_of share.value ≡ image) shares.items
-        → All (λ h. image_in h ≡ Some image) handles.new }
+    requires count { vec_len parts ≡ length handles.old }
+    ensures parts { (image : HeapImage) → (origin : Origin) → All (λ part. IsPartOf image origin part.value) parts.items
+        → All (IsHandleOf image origin) handles.new }
 {
     for handle in handles.iter_mut() {
-        match shares.pop() {
-            Some(share) => handle.enter(share),
+        match parts.pop() {
+            Some(part) => handle.enter(part),
             None => unreachable!(),
         }
     }

@@ -1,5 +1,5 @@
 //! How the workers' parts in a collection are taken back from a host, and its words are written.
-ghost use Rattle.std.specs.Prelude.{◌≡◌, ◌⊎◌, List, ◌++◌, ◌∷◌, [], true, Some, None, is_some, IfOk, OnErr, IfErr, MatchOption, MatchResult, All, map, length};
+ghost use Rattle.std.specs.Prelude.{◌≡◌, ◌⊎◌, List, ◌++◌, ◌∷◌, [], Some, None, Err, IfOk, OnErr, IfErr, MatchOption, MatchResult, All, map, length};
 ghost use Rattle.object_heap.specs.HeapImage.{HeapImage};
 ghost use Rattle.heap_image.specs.ImageText.{with_tail};
 ghost use Rattle.image_streams.specs.declared.fault.Fault.TheVariants.{Length, Memory, Workers};
@@ -8,28 +8,50 @@ ghost use Rattle.fill.specs.FillFaults.{IsOverwritten};
 ghost use Rattle.collector.specs.Collections.{figures_of};
 ghost use Rattle.collector.specs.Sessions.{image_of};
 ghost use Rattle.collector.specs.declared.session.share.Share.{Share};
-ghost use Rattle.pcompact_c.specs.Handles.{IsLastIn, IsWhyNotEnded};
+ghost use Rattle.caller_heap.specs.declared.part.Origin.TheVariants.{Copied};
+ghost use Rattle.pcompact_c.specs.Handles.{AreFrom, HaveSameParts, IsLastIn, IsWhyNotEnded, share_in};
 
+use crate::sessions::counting::are_all_of_one;
 use crate::sessions::handle::PcompactHandle;
-use caller_heap::{put_tail, put_words};
+use caller_heap::{Origin, Part, put_tail, put_words};
 use collector::{Figures, Outcome, Share};
 use heap_image::{Fault, Image, Version};
 use std::alloc::Global;
 
-/// Ends the session of these handles, none of which has a share then, and writes the words of the compaction, and its live
-/// addresses or roots. After a fault the words and the list are as they were.
+/// Ends the session of these handles, whose words are a copy, and writes the words of the compaction, and its live addresses or
+/// roots. After a fault the words and the list are as they were; after fault 12 the handles too, otherwise none has a share.
 pub(crate) fn end(
     alloc: Global,
     handles: &mut [PcompactHandle],
     words: &mut [u64],
     list: &mut [u64],
 ) -> Result<Figures, Fault>
-    ensures free { All (λ h. h.2 ≡ None) handles.new }
-    ensures held { IfOk result (λ _. All (λ h. is_some h.2 ≡ true) handles.old) }
+    ensures origin { AreFrom Copied handles.old ⊎ (result ≡ Err Workers) }
+    ensures refused { result ≡ Err Workers → HaveSameParts handles.old handles.new }
+    ensures free { All (λ h. h.2 ≡ None) handles.new ⊎ (result ≡ Err Workers) }
     ensures collected { IfOk result (λ figures. (image : HeapImage) × IsLastIn image handles.old
         × (words.new ≡ (compact image).words) × (list.new ≡ (with_tail (compact image)).live) × (figures ≡ figures_of image)) }
     ensures kept { OnErr result ((words.new ≡ words.old) × (list.new ≡ list.old)) }
     ensures fault { IfErr result IsWhyNotEnded }
+{
+    if !are_all_of_one(alloc, Origin::Copied, handles) {
+        return Err(Fault::Workers);
+    }
+    end_copy(alloc, handles, words, list)
+}
+
+/// Ends the session of these handles, which are all of it, in the same way. None has a share then.
+fn end_copy(
+    alloc: Global,
+    handles: &mut [PcompactHandle],
+    words: &mut [u64],
+    list: &mut [u64],
+) -> Result<Figures, Fault>
+    ensures free { All (λ h. h.2 ≡ None) handles.new }
+    ensures collected { IfOk result (λ figures. (image : HeapImage) × IsLastIn image handles.old
+        × (words.new ≡ (compact image).words) × (list.new ≡ (with_tail (compact image)).live) × (figures ≡ figures_of image)) }
+    ensures kept { OnErr result ((words.new ≡ words.old) × (list.new ≡ list.old)) }
+    ensures fault { IfErr result (λ fault. (fault ≡ Length) ⊎ ((fault ≡ Memory) ⊎ IsOverwritten fault)) }
 {
     let shares = take_shares(alloc, handles)?;
     let outcome = outcome_of(shares)?;
@@ -37,12 +59,12 @@ pub(crate) fn end(
     Ok(outcome.figures)
 }
 
-/// Takes the shares out of these handles, in their order. Fails with fault 12 if a handle has none, or 11 if memory runs
-/// out; the shares are dropped then.
+/// Takes the shares out of these handles, each of which has one, in their order. Fails with fault 11 if memory runs out; the
+/// shares are dropped then.
 fn take_shares(alloc: Global, handles: &mut [PcompactHandle]) -> Result<Vec<Share>, Fault>
     ensures free { All (λ h. h.2 ≡ None) handles.new }
-    ensures shares { IfOk result (λ shares. map (λ h. h.2) handles.old ≡ map Some shares.items) }
-    ensures fault { IfErr result (λ fault. (fault ≡ Workers) ⊎ (fault ≡ Memory)) }
+    ensures shares { IfOk result (λ shares. map share_in handles.old ≡ map Some shares.items) }
+    ensures fault { IfErr result (λ fault. (fault ≡ Memory) ⊎ IsOverwritten fault) }
 {
     let room = room_for(alloc, handles.len());
     take_into(alloc, room, handles)
@@ -56,10 +78,10 @@ pub(crate) fn take_into(
     handles: &mut [PcompactHandle],
 ) -> Result<Vec<Share>, Fault>
     requires none { IfOk room (λ shares. shares.items ≡ []) }
-    requires fault { IfErr room (λ fault. (fault ≡ Workers) ⊎ (fault ≡ Memory)) }
+    requires fault { IfErr room (λ fault. (fault ≡ Memory) ⊎ IsOverwritten fault) }
     ensures free { All (λ h. h.2 ≡ None) handles.new }
-    ensures shares { IfOk result (λ shares. map (λ h. h.2) handles.old ≡ map Some shares.items) }
-    ensures fault { IfErr result (λ fault. (fault ≡ Workers) ⊎ (fault ≡ Memory)) }
+    ensures shares { IfOk result (λ shares. map share_in handles.old ≡ map Some shares.items) }
+    ensures fault { IfErr result (λ fault. (fault ≡ Memory) ⊎ IsOverwritten fault) }
 {
     let mut taken = room;
     for handle in handles.iter_mut() {
@@ -76,34 +98,37 @@ pub(crate) fn room_for(alloc: Global, count: usize) -> Result<Vec<Share>, Fault>
     Ok(Vec::with_capacity(alloc, count)?)
 }
 
-/// The shares so far, if there was no fault, and one more. Fails with fault 12 if there is none.
+/// The shares so far, if there was no fault, and that of one more part. No part is fault 15.
 fn with_share(
     taken: Result<Vec<Share>, Fault>,
-    share: Option<Box<Share, Global>>,
+    part: Option<Box<Part, Global>>,
 ) -> Result<Vec<Share>, Fault>
-    requires fault { IfErr taken (λ fault. (fault ≡ Workers) ⊎ (fault ≡ Memory)) }
+    requires fault { IfErr taken (λ fault. (fault ≡ Memory) ⊎ IsOverwritten fault) }
     ensures shares { IfOk result (λ all. MatchResult taken
-        (λ so_far. MatchOption share ⊥ (λ more. all.items ≡ so_far.items ++ more.value ∷ [])) (λ _. ⊥)) }
-    ensures fault { IfErr result (λ fault. (fault ≡ Workers) ⊎ (fault ≡ Memory)) }
+        (λ so_far. MatchOption part ⊥ (λ more. all.items ≡ so_far.items ++ more.value.share ∷ [])) (λ _. ⊥)) }
+    ensures fault { IfErr result (λ fault. (fault ≡ Memory) ⊎ IsOverwritten fault) }
 {
     let mut shares = taken?;
-    let Some(share) = share else {
-        return Err(Fault::Workers);
+    let Some(part) = part else {
+        return Err(Fault::Overwritten(0));
     };
-    shares.push(Box::into_inner(share))?;
+    shares.push(Box::into_inner(part).share)?;
     Ok(shares)
 }
 
-/// Ends the session of these shares, and returns what it made of the last one's image. Fails with fault 12 if they aren't all
-/// of one session, or 15 if a cell or a queue contradicts the order of work.
+/// Ends the session of these shares, and returns what it made of the last one's image. Fails with fault 15 if they aren't all
+/// of one session, or a cell or a queue contradicts the order of work.
 fn outcome_of(mut shares: Vec<Share>) -> Result<Outcome, Fault>
     ensures outcome { IfOk result (λ outcome. (others : List Share) × (last : Share) × (shares.items ≡ others ++ last ∷ [])
         × (outcome.image ≡ compact (image_of last)) × (outcome.figures ≡ figures_of (image_of last))) }
-    ensures fault { IfErr result (λ fault. (fault ≡ Workers) ⊎ IsOverwritten fault) }
+    ensures fault { IfErr result IsOverwritten }
 {
-    match shares.pop() {
-        Some(share) => share.end(shares),
-        None => Err(Fault::Workers),
+    let Some(share) = shares.pop() else {
+        return Err(Fault::Overwritten(0));
+    };
+    match share.end(shares) {
+        Ok(outcome) => Ok(outcome),
+        Err(fault) => Err(contradiction(fault)),
     }
 }
 
@@ -130,5 +155,15 @@ fn tail_len(image: &Image) -> usize
     match image.version() {
         Version::One => image.live().len(),
         Version::Two | Version::Three => image.roots().len(),
+    }
+}
+
+/// Fault 15, for a fault that contradicts what was tested before.
+pub(crate) fn contradiction(fault: Fault) -> Fault
+    ensures { IsOverwritten result }
+{
+    match fault {
+        Fault::Overwritten(region) => Fault::Overwritten(region),
+        _ => Fault::Overwritten(0),
     }
 }

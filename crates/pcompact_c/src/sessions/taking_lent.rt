@@ -1,5 +1,5 @@
 //! How the workers' parts in a collection over lent words are taken back from a host, and its words are put back.
-ghost use Rattle.std.specs.Prelude.{◌≡◌, ◌≤◌, ◌⊎◌, List, ◌++◌, ◌∷◌, [], true, None, is_some, IsTrue, IfOk, OnOk, IfErr, All, map, length};
+ghost use Rattle.std.specs.Prelude.{◌≡◌, ◌≤◌, ◌⊎◌, List, ◌++◌, ◌∷◌, [], None, Err, IsTrue, IfOk, OnOk, IfErr, All, length};
 ghost use Rattle.object_heap.specs.HeapImage.{HeapImage};
 ghost use Rattle.heap_image.specs.ImageText.{with_tail};
 ghost use Rattle.image_streams.specs.declared.fault.Fault.TheVariants.{Length, Workers};
@@ -9,35 +9,40 @@ ghost use Rattle.collector.specs.Collections.{figures_of};
 ghost use Rattle.collector.specs.Sessions.{image_of};
 ghost use Rattle.collector.specs.declared.session.share.Share.{Share};
 ghost use Rattle.caller_heap.specs.Lent.{HoldImage, IsGone};
-ghost use Rattle.pcompact_c.specs.Handles.{IsLastIn, IsWhyNotEnded};
+ghost use Rattle.caller_heap.specs.declared.part.Origin.TheVariants.{Lent};
+ghost use Rattle.pcompact_c.specs.Handles.{AreFrom, HaveSameParts, IsLastIn, IsWhyNotEnded};
 
+use crate::sessions::counting::are_all_of_one;
 use crate::sessions::handle::PcompactHandle;
-use crate::sessions::taking::{room_for, take_into};
-use caller_heap::{end_lent_words, suits};
+use crate::sessions::taking::{contradiction, room_for, take_into};
+use caller_heap::{Origin, end_lent_words, suits};
 use collector::{Figures, Share};
 use heap_image::Fault;
 use raw_region::HostWords;
 use std::alloc::Global;
 
-/// Ends the session of these handles, and puts the words of the compaction back, and its live addresses or roots. After a
-/// fault all is as it was, but for fault 15.
+/// Ends the session of these handles, whose words were lent in a list at this place, and puts the words of the compaction
+/// back, and its live addresses or roots. After a fault all is as it was, but for fault 15.
 pub(crate) fn end_lent(
     alloc: Global,
     handles: &mut [PcompactHandle],
     words: &mut [HostWords],
     list: &mut [u64],
+    place: u64,
 ) -> Result<Figures, Fault>
-    ensures held { OnOk result (All (λ h. is_some h.2 ≡ true) handles.old) }
+    ensures origin { AreFrom (Lent place) handles.old ⊎ (result ≡ Err Workers) }
     ensures free { OnOk result (All (λ h. h.2 ≡ None) handles.new) }
     ensures collected { IfOk result (λ figures. (image : HeapImage) × IsLastIn image handles.old
         × HoldImage (compact image) words.new × (list.new ≡ (with_tail (compact image)).live) × (figures ≡ figures_of image)) }
     ensures kept { IfErr result (λ fault. ((words.new ≡ words.old) × (list.new ≡ list.old)
-        × (map (λ h. h.2) handles.new ≡ map (λ h. h.2) handles.old))
+        × HaveSameParts handles.old handles.new)
         ⊎ (IsOverwritten fault × All (λ h. h.2 ≡ None) handles.new)) }
     ensures fault { IfErr result IsWhyNotEnded }
 {
-    check(alloc, handles, words.len(), list.len())?;
-    if !are_gone(words) {
+    if !are_all_of_one(alloc, Origin::Lent(place), handles) {
+        return Err(Fault::Workers);
+    }
+    if !suit(alloc, handles, words.len(), list.len()) || !are_gone(words) {
         return Err(Fault::Length);
     }
     let room = room_for(alloc, handles.len())?;
@@ -47,25 +52,12 @@ pub(crate) fn end_lent(
     }
 }
 
-/// Tests whether the session of these handles can be ended into so many regions and numbers. Fails with fault 12 if they
-/// aren't all those of one session, and with fault 4 if it has more or fewer regions or numbers.
-fn check(
-    alloc: Global,
-    handles: &mut [PcompactHandle],
-    regions: usize,
-    numbers: usize,
-) -> Result<(), Fault>
-    ensures shares { map (λ h. h.2) handles.new ≡ map (λ h. h.2) handles.old }
-    ensures fault { IfErr result (λ fault. (fault ≡ Workers) ⊎ (fault ≡ Length)) }
+/// Whether the session of these handles has so many regions, and live addresses or roots.
+fn suit(alloc: Global, handles: &mut [PcompactHandle], regions: usize, numbers: usize) -> bool
+    requires { 1 ≤ length handles.old }
+    ensures { HaveSameParts handles.old handles.new }
 {
-    if !are_all_of_one(alloc, handles) {
-        return Err(Fault::Workers);
-    }
-    if handles[0].suits(alloc, regions, numbers) {
-        Ok(())
-    } else {
-        Err(Fault::Length)
-    }
+    handles[0].suits(alloc, regions, numbers)
 }
 
 /// Whether no words are held.
@@ -79,42 +71,6 @@ fn are_gone(words: &mut [HostWords]) -> bool
         }
     }
     true
-}
-
-/// Whether these are all handles of one session.
-fn are_all_of_one(alloc: Global, handles: &mut [PcompactHandle]) -> bool
-    ensures shares { map (λ h. h.2) handles.new ≡ map (λ h. h.2) handles.old }
-    ensures some { IsTrue result → 1 ≤ length handles.old }
-{
-    if handles.is_empty() {
-        return false;
-    }
-    let shares = handles.len();
-    let are_held = count_in(alloc, handles);
-    let are_all = handles[0].are_all_counted(alloc, shares);
-    count_out(alloc, handles);
-    are_held && are_all
-}
-
-/// Counts the shares of these handles among those at hand. Returns whether each has one.
-fn count_in(alloc: Global, handles: &mut [PcompactHandle]) -> bool
-    ensures { map (λ h. h.2) handles.new ≡ map (λ h. h.2) handles.old }
-{
-    let mut are_held = true;
-    for handle in handles.iter_mut() {
-        let is_held = handle.count_in(alloc);
-        are_held = are_held && is_held;
-    }
-    are_held
-}
-
-/// Takes the shares of these handles out of that count.
-fn count_out(alloc: Global, handles: &mut [PcompactHandle])
-    ensures { map (λ h. h.2) handles.new ≡ map (λ h. h.2) handles.old }
-{
-    for handle in handles.iter_mut() {
-        handle.count_out(alloc);
-    }
 }
 
 /// Ends the session of these shares into words that it suits. Whatever it contradicts is fault 15.
@@ -138,15 +94,5 @@ fn end_shares(
     match end_lent_words(words, list, share, shares) {
         Ok(figures) => Ok(figures),
         Err(fault) => Err(contradiction(fault)),
-    }
-}
-
-/// Fault 15, for a fault that contradicts what was tested before.
-fn contradiction(fault: Fault) -> Fault
-    ensures { IsOverwritten result }
-{
-    match fault {
-        Fault::Overwritten(region) => Fault::Overwritten(region),
-        _ => Fault::Overwritten(0),
     }
 }

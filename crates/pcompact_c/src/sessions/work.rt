@@ -1,6 +1,6 @@
 //! The work of a thread in a collection by several threads.
 ghost use Rattle.std.specs.Prelude.{◌≡◌, ◌≤◌, ◌↔◌, None};
-ghost use Rattle.pcompact_c.specs.Handles.{image_in};
+ghost use Rattle.pcompact_c.specs.Handles.{image_in, origin_in};
 
 use crate::sessions::handle::PcompactHandle;
 use collector::{Halt, Progress};
@@ -24,6 +24,7 @@ const NOT_HELD: u32 = 5;
 #[unsafe(no_mangle)]
 pub extern "C" fn pcompact_work(alloc: Global, handle: &mut PcompactHandle, turns: u64) -> u32
     ensures image { image_in handle.new ≡ image_in handle.old }
+    ensures origin { origin_in handle.new ≡ origin_in handle.old }
     ensures not_held { result ≡ 5 ↔ handle.old.2 ≡ None }
     ensures known { result ≤ 5 }
 {
@@ -39,6 +40,7 @@ pub extern "C" fn pcompact_work(alloc: Global, handle: &mut PcompactHandle, turn
 #[unsafe(no_mangle)]
 pub extern "C" fn pcompact_work_all(alloc: Global, handle: &mut PcompactHandle) -> u32
     ensures image { image_in handle.new ≡ image_in handle.old }
+    ensures origin { origin_in handle.new ≡ origin_in handle.old }
     ensures not_held { result ≡ 5 ↔ handle.old.2 ≡ None }
     ensures known { result ≤ 5 }
 {

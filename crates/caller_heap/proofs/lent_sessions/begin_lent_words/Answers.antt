@@ -37,7 +37,7 @@ returns-clause-begun c =
     let began = c.begin_parts.ensures in
     IfOk-weaker c.begin_parts.result _ _
     (λ shares all. (image_in parts, all.0, c.in_ok-parts.ensures.bytes ∙ sym all.1, all.2))
-    (all_ok c.begin_parts.result _ _ _ began.valid began.text began.image)
+    (all_ok c.begin_parts.result _ _ _ began.valid began.text began.parts)
 
 pub returns-in_err-parts-clause-fault : goal.returns-in_err-parts-clause-fault
 returns-in_err-parts-clause-fault c =

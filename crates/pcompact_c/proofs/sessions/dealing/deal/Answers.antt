@@ -1,4 +1,5 @@
+use Rattle.caller_heap.specs.declared.part.Origin.TheVariants.{Copied}
 use Rattle.pcompact_c.proofs.sessions.dealing.deal.Goals as goal
 
-pub returns-in-Ok-clause-image : goal.returns-in-Ok-clause-image
-returns-in-Ok-clause-image c _ = c.hand_out.ensures.image c.args.image c.in-Ok.ensures.image
+pub returns-in-Ok-clause-parts : goal.returns-in-Ok-clause-parts
+returns-in-Ok-clause-parts c _ = c.hand_out.ensures.parts c.args.image Copied c.in-Ok.ensures.parts

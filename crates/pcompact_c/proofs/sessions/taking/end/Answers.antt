@@ -1,22 +1,9 @@
-use Rattle.std.proofs.Common.{◌∙◌, ap}
-use Rattle.std.specs.Prelude.{Some, map, option_map}
-use Rattle.object_heap.specs.HeapImage.{HeapImage}
-use Rattle.heap_image.specs.ImageText.{with_tail}
-use Rattle.collector.specs.Sessions.{image_of}
-use Rattle.pcompact_c.proofs.Lemmas.Shares.{each_some, ends}
+use Rattle.std.proofs.lemmas.Result.{IfOk-weaker}
+use Rattle.pcompact_c.proofs.Lemmas.Kept.{last_kept}
 use Rattle.pcompact_c.proofs.sessions.taking.end.Goals as goal
 
 pub returns-clause-collected : goal.returns-clause-collected
 returns-clause-collected c =
-    let made = c.in_ok-outcome.ensures.outcome in
-    let last = ends (λ h. h.2) Some c.args.handles.now made.0 made.1 (c.in_ok-shares.ensures.shares ∙ ap (map Some) made.2) in
-    let put = c.in_ok-put_back.ensures in (
-      image_of made.1,
-      (last.0, last.1, last.2, ap (option_map image_of) last.3),
-      put.words ∙ ap (λ (image : HeapImage). image.words) made.3,
-      put.list ∙ ap (λ (image : HeapImage). (with_tail image).live) made.3,
-      made.4,
-    )
-
-pub returns-clause-held : goal.returns-clause-held
-returns-clause-held c = each_some (λ h. h.2) c.args.handles.now c.in_ok-shares.shares.items c.in_ok-shares.ensures.shares
+    IfOk-weaker c.end_copy.result _ _
+    (λ figures made. (made.0, last_kept made.0 c.args.handles.now c.are_all_of_one.new.handles c.are_all_of_one.ensures.parts made.1, made.2, made.3, made.4))
+    c.end_copy.ensures.collected

@@ -1,4 +1,4 @@
--- `empty` makes a handle without a share.
+-- `empty` makes a handle without a part.
 use Rattle.std.proofs.Common.{[], ◌∷◌, refl, lit<}
 use Rattle.std.proofs.raw_atomic.Walks.{proved}
 use Rattle.core.proofs.mem.Facts.{says_two}

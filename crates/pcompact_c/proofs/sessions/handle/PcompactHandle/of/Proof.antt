@@ -1,4 +1,4 @@
--- `of` takes the place of a boxed share, and the handle holds what the box owned.
+-- `of` takes the place of a boxed part, and the handle holds what the box owned.
 use Rattle.std.proofs.Common.{List, [], ◌∷◌, ◌++◌, refl}
 use Rattle.std.proofs.raw_atomic.Walks.{proved_at}
 use Rattle.std.specs.Prelude.{Some}
@@ -21,7 +21,7 @@ use Rattle.std_alloc.proofs.BoxSteps.Form.{D, B, box_typed}
 use Rattle.std_alloc.proofs.BoxSteps.Steps.{box_out}
 use Rattle.std_heap.specs.contracts.Global as Heap
 use Rattle.std_heap.specs.contracts.GlobalAllocator.TheImpl.{ghosts}
-use Rattle.collector.specs.contracts.session.share.Share as Share
+use Rattle.caller_heap.specs.contracts.part.Part as Part
 use Rattle.pcompact_c.specs.Handles.{held}
 use Rattle.pcompact_c.specs.contracts.sessions.raw_box.RawBox as RawBox
 use Rattle.pcompact_c.specs.contracts.sessions.handle.PcompactHandle.of as f
@@ -30,7 +30,7 @@ use Rattle.pcompact_c.proofs.sessions.handle.PcompactHandle.of.Code as code
 use Rattle.pcompact_c.proofs.Lemmas.Held.{E, word, handle_in}
 
 abbrev From : Slot 0
-From = plain (λ _. RawBox.the_row Share.the_row Heap.the_row ghosts)
+From = plain (λ _. RawBox.the_row Part.the_row Heap.the_row ghosts)
 
 abbrev stayed : Stays f.ended.signature.params f.ended.kept
 stayed = (stay_dropped From yes, tt)

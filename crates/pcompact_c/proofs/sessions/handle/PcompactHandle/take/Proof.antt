@@ -27,7 +27,7 @@ use Rattle.core.proofs.alloc.Calls.{token, Fits, Goes-blank}
 use Rattle.std_heap.proofs.Handle.{heap_val, heap_Tells}
 use Rattle.std_heap.specs.contracts.Global as Heap
 use Rattle.std_heap.specs.contracts.GlobalAllocator.TheImpl.{ghosts}
-use Rattle.collector.specs.contracts.session.share.Share as Share
+use Rattle.caller_heap.specs.contracts.part.Part as Part
 use Rattle.pcompact_c.specs.Handles.{held}
 use Rattle.pcompact_c.specs.contracts.sessions.raw_box.RawBox as RawBox
 use Rattle.pcompact_c.specs.contracts.sessions.handle.PcompactHandle as Handle
@@ -38,7 +38,7 @@ use Rattle.pcompact_c.proofs.sessions.handle.PcompactHandle.take.Code as code
 use Rattle.pcompact_c.proofs.Lemmas.Held.{E, handle_out, some_of}
 
 abbrev To : RattleType
-To = RawBox.the_row Share.the_row Heap.the_row ghosts
+To = RawBox.the_row Part.the_row Heap.the_row ghosts
 
 abbrev stayed : Stays f.ended.signature.params f.ended.kept
 stayed = (stay_dropped (plain (λ _. Handle.the_row)) yes, (stay_dropped (plain (λ _. Heap.the_row)) yes, tt))
@@ -56,7 +56,7 @@ take_spec 𝓤 𝓛 𝓜 𝓡 wired =
     let y : W.Ghost = ((κs, qs, bounds, a, (lowers.lowered d ∷ [], (heap_val ∷ [], tt))), tt) in
     qed 𝓛 ((‵ ftrue ⊛ ‵ (Handle.the_row.own_val d (lowers.lowered d ∷ [])) ⊛ ‵ (Heap.the_row.own_val h (heap_val ∷ [])) ⊛ ‵ ftrue) ∷ raw (fact 𝓤 (is_some d.2 ≡ true)) ∷ []) ∵
     move ! (1 ∷ []) $ heard ! (is_some d.2 ≡ true) (λ is. let some = some_of d.2 is in let x = some.0 in let Owns = box_owns (token E.al h) (box.R E) in
-    split ! $ drop ! $ split ! $ handle_out ! d.0 d.1 d.2 $ rewrite ! 0 (λ (o : Option Share.the_row.Denot). ‵ (held d.1 o)) some.1 refl $
+    split ! $ drop ! $ split ! $ handle_out ! d.0 d.1 d.2 $ rewrite ! 0 (λ (o : Option Part.the_row.Denot). ‵ (held d.1 o)) some.1 refl $
     in_a_block ! d.1 (λ (q : Ptr). Owns q x) (fst∗ 𝓤 (never 𝓤) (sem 𝓛 (token E.al h (bare (box.τ E)) null_ptr))) (λ b o e. let p = block_ptr b o in
     let boxed : box.D E = record { ptr = p; alloc = h; value = x } in let made : To.Denot = record { at = p; alloc = h; value = x } in let w = box.word E heap_val b o in
     fsplit ! $ move ! (2 ∷ []) $ split ! $ move ! (2 ∷ 3 ∷ 0 ∷ []) $ box_in E ! boxed b o x refl refl $ use1 𝓛 (‵ (To.own_val made (w ∷ []))) (id⊢ 𝓤 _) $ move ! (1 ∷ []) $ drop ! $

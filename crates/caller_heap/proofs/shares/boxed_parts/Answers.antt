@@ -1,8 +1,8 @@
 use Rattle.caller_heap.proofs.Lemmas.Shares.{kept_image}
-use Rattle.caller_heap.proofs.shares.boxed_shares.Goals as goal
+use Rattle.caller_heap.proofs.shares.boxed_parts.Goals as goal
 
-pub returns-in-Ok-clause-image : goal.returns-in-Ok-clause-image
-returns-in-Ok-clause-image c = c.in-Ok.ensures.image c.args.image c.in_ok-shares.ensures.image
+pub returns-in-Ok-clause-parts : goal.returns-in-Ok-clause-parts
+returns-in-Ok-clause-parts c = c.in-Ok.ensures.parts c.args.image c.in_ok-shares.ensures.image
 
 pub returns-in-Err-clause-kept : goal.returns-in-Err-clause-kept
 returns-in-Err-clause-kept c =

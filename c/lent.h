@@ -1,0 +1,29 @@
+/* The proved calls behind those of lent.c and in_place.c. `place` is a number for the words that are lent: an end with another
+ * than that of the begin is fault 12. */
+#ifndef PCOMPACT_LENT_H
+#define PCOMPACT_LENT_H
+
+#include "pcompact.h"
+
+pcompact_fault pcompact_begin_lent_at(pcompact_words *words, size_t region_count, const uint64_t *live, size_t live_count,
+                                      pcompact_settings settings, pcompact_handle *handles, size_t worker_count, uint64_t place);
+
+pcompact_fault pcompact_begin_lent_rooted_at(pcompact_words *words, size_t region_count, const uint64_t *roots, size_t root_count,
+                                             pcompact_settings settings, pcompact_handle *handles, size_t worker_count,
+                                             uint64_t place);
+
+uint32_t pcompact_end_lent_at(pcompact_handle *handles, size_t worker_count, pcompact_words *words, size_t region_count,
+                              uint64_t *list, size_t list_count, pcompact_answer *answer, uint64_t place);
+
+/* The place of words that a host lends. It is even, as a struct of words is aligned to 8 bytes. */
+static inline uint64_t place_of_lent(const pcompact_words *words) {
+    return (uintptr_t)words;
+}
+
+/* The place of words that are collected in place, whose regions are listed here. It is odd, so no end takes one kind for the
+ * other. */
+static inline uint64_t place_of_listed(const pcompact_words *words) {
+    return (uintptr_t)words + 1;
+}
+
+#endif

@@ -1,0 +1,10 @@
+-- The workers' parts in one collection.
+use Rattle.std.specs.Prelude.{◌≡◌}
+use Rattle.object_heap.specs.HeapImage.{HeapImage}
+use Rattle.collector.specs.Sessions.{image_of}
+use Rattle.caller_heap.specs.declared.part.Origin.{Origin}
+use Rattle.caller_heap.specs.declared.part.Part.{Part}
+
+-- a part in the compaction of this image, whose words come from there
+abbrev pub IsPartOf : HeapImage → Origin → Part → Type 0
+IsPartOf image origin part = (image_of part.share ≡ image) × (part.origin ≡ origin)
