@@ -11,65 +11,89 @@
 #   header CHECKSUM     of pcompact.h beside the stamp, which is that of c/
 #   around CHECKSUM     of what is C in the library
 
+line='
+'
+
 # Runs a command, in the folder of the repository, on the folders of code and specs.
 over_sources() (
     cd -- "$top" || exit
     for crate in crates/*; do
         case $crate in *_tests | *_samples) continue ;; esac
-        set -- "$@" "$crate/src"
-        [ ! -d "$crate/specs" ] || set -- "$@" "$crate/specs"
+        for folder in "$crate/src" "$crate/specs"; do
+            [ ! -d "$folder" ] || set -- "$@" "$folder"
+        done
     done
     "$@"
 )
 
-# Prints the path and checksum of each file of code and specs below these folders.
+# Prints the path and checksum of each file of code and specs below these folders. A tool that fails names a file that isn't
+# there, by which the last one fails.
 sum_files() {
-    find -L "$@" -type f '(' -name '*.rt' -o -name '*.antt' ')' -print0 | LC_ALL=C sort -z | xargs -0 sha256sum
+    { find -L "$@" -type f '(' -name '*.rt' -o -name '*.antt' ')' -print0 || printf '/dev/null/find\0'; } |
+        { LC_ALL=C sort -z || printf '/dev/null/sort\0'; } | xargs -0 sha256sum
 }
 
-# Prints the checksum of the sources as they stand.
+# Prints the checksum of what is read.
+sum_only() {
+    total=$(sha256sum) && printf '%s\n' "${total%% *}"
+}
+
+# Prints the checksum of the sources as they stand. Fails where one of them can't be read.
 sources_sum() {
-    {
-        sed '/^[^a-z]/d; /^$/d; /^[a-z_]*_\(tests\|samples\)[ :]/d' "$top/crates.txt" | LC_ALL=C sort
-        cat "$top/HANDLES"
-        over_sources sum_files
-    } | sha256sum | cut -d ' ' -f 1
+    uses=$(sed '/^[^a-z]/d; /^$/d; /^[a-z_]*_\(tests\|samples\)[ :]/d' "$top/crates.txt") &&
+        uses=$(printf '%s\n' "$uses" | LC_ALL=C sort) && handles=$(cat "$top/HANDLES") && files=$(over_sources sum_files) &&
+        printf '%s\n' "$uses" "$handles" "$files" | sum_only
 }
 
 # Prints the checksum of the files of C in the library, and of what they include but pcompact.h.
 around_sum() {
-    { cd -- "$top/c" && sha256sum heap.[ch] in_place.c freestanding/*.h; } 2>/dev/null | sha256sum | cut -d ' ' -f 1
+    files=$(cd -- "$top/c" && sha256sum heap.[ch] in_place.c lent.[ch] freestanding/*.h) 2>/dev/null && printf '%s\n' "$files" | sum_only
 }
 
 # Prints what the stamp of a folder has behind a word.
 stamped() {
-    sed -n "s/^$2 //p" "$top/$1/stamp" 2>/dev/null
+    while read -r word text; do
+        [ "$word" != "$2" ] || printf '%s\n' "$text"
+    done 2>/dev/null <"$top/$1/stamp"
 }
 
 # Prints the checksum of a file of the repository, or nothing where there is none.
 file_sum() {
-    { sha256sum <"$top/$1" | cut -d ' ' -f 1; } 2>/dev/null
+    [ ! -e "$top/$1" ] || sum_only <"$top/$1"
 }
 
 # Whether a folder's program was built from sources of this checksum, is the one that its stamp names, and starts here.
-# Else `why` is the reason.
+# Else `why` is the reason. Status 2 where that can't be told.
 fits() {
     why="$1/pcompact wasn't built from these sources"
     [ "$2" = "$(stamped "$1" sources)" ] || return 1
+    why="$1/pcompact can't be read here"
+    total=$(file_sum "$1/pcompact" 2>/dev/null) || return 2
     why="$1/pcompact isn't the program of its stamp"
-    [ "$(file_sum "$1/pcompact")" = "$(stamped "$1" program)" ] || return 1
+    [ "$total" = "$(stamped "$1" program)" ] || return 1
+    ! "$top/$1/pcompact" --version >/dev/null 2>&1 || return 0
     why="$1/pcompact doesn't start on this machine (it needs $(stamped "$1" needs))"
-    "$top/$1/pcompact" --version >/dev/null 2>&1
+    [ "$(ulimit -v)" != unlimited ] || return 1
+    why="$why, or not in the memory that ulimit -v allows"
+    return 2
 }
 
-# Finds the program that fits the sources: out/pcompact if it was proved here, or dist. Sets `folder`, or else `why`.
+# Sets `sum`, the checksum of the sources, or else `why` they have none here.
+take_sum() {
+    sum=$(sources_sum 2>&1) && sum=${sum##*"$line"} && return
+    why="the sources have no checksum here: ${sum%%"$line"*}"
+    return 2
+}
+
+# Finds the program that fits the sources: out/pcompact if it was proved here, or dist. Sets `folder`, or else `why`. Status 2
+# where it can't be told; where none fits, what the script pcompact has kept goes.
 find_program() {
-    sum=$(sources_sum)
-    why="the sources have no checksum here, for which find, sed, sort, xargs, cut and sha256sum are needed"
-    [ -n "$sum" ] || return 1
+    take_sum || return
     for folder in out/pcompact dist; do
-        ! fits "$folder" "$sum" || return 0
+        fits "$folder" "$sum" && return
+        [ $? = 1 ] || return 2
     done
+    rm -f -- "$top/out/pcompact/found" 2>/dev/null
     return 1
 }
 
@@ -93,7 +117,7 @@ fits_library() {
 
 # Finds the library that fits the sources: out/pcompact_c if it was proved here, or dist. Sets `library`, or else `why`.
 find_library() {
-    sum=$(sources_sum)
+    take_sum || return
     for library in out/pcompact_c dist; do
         ! fits_library "$library" "$sum" || return 0
     done

@@ -6,7 +6,7 @@ another: thousands of ways in the upper crates, which take minutes. Here each su
 meanwhile. `statements` proves a library from nothing and keeps its statements alone, which load faster than its proofs, as
 `rt verdict` does for the crates above. Unlike that, it doesn't search for contracts that no call can meet.
 
-This calls the functions of rt's module. With a kit that has no such functions it calls rt.
+This calls functions of rt's module, and replaces some, for the kits that it was tried with. For any other kit it calls rt.
 
 usage: tests/build/build_crate.py JOBS statements
        tests/build/build_crate.py JOBS check|lib|run|test [WORD ..]
@@ -18,12 +18,19 @@ import shutil
 import subprocess
 import sys
 import types
+from collections.abc import Callable
 
+# What `rt version` prints of the kits that this was tried with.
+KITS = ("rattle-kit-13b logic dac8208d650f15bf", "rattle-kit-13f logic dac8208d650f15bf")
 VERBS = ("statements", "check", "lib", "run", "test")
 
 
 def load_rt() -> types.ModuleType:
-    """The module that rt is made of, with sums that are computed once. Raises ImportError or AttributeError if there is none."""
+    """The module that rt is made of, with sums that are computed once. Raises ImportError if the kit is none of KITS or has no
+    such module, and AttributeError if it is another module."""
+    kit = subprocess.run(["rt", "version"], check=True, capture_output=True, text=True).stdout.strip()
+    if kit not in KITS:
+        raise ImportError(f"the kit {kit} was never tried")
     sys.path.insert(0, str(pathlib.Path(shutil.which("rt") or "rt").resolve().parent))
     import rtlib
 
@@ -36,7 +43,7 @@ def mark(crate) -> None:
     pathlib.Path(crate.folder, "out", "rlib", "stamp").write_text(crate.stamp())
 
 
-def help_without(help_of, flag: str, verb: str) -> str:
+def help_without(help_of: Callable[[str], str], flag: str, verb: str) -> str:
     """The help of a command of rattle, as if it hadn't this flag."""
     return help_of(verb).replace(flag, "")
 
@@ -69,11 +76,11 @@ def main() -> int:
     jobs, verb, *words = sys.argv[1:]
     try:
         rt = load_rt()
-        return prove_statements(rt, jobs) if verb == "statements" else rt.main(verb, "--jobs", jobs, *words)
-    except (ImportError, AttributeError, TypeError) as error:
+    except (ImportError, AttributeError) as error:
         print(f"rt takes longer, as its module isn't the one that is known here: {error}", flush=True)
-    verb = "lib" if verb == "statements" else verb
-    return subprocess.run(["rt", verb, "--jobs", jobs, *words], check=False).returncode
+        verb = "lib" if verb == "statements" else verb
+        return subprocess.run(["rt", verb, "--jobs", jobs, *words], check=False).returncode
+    return prove_statements(rt, jobs) if verb == "statements" else rt.main(verb, "--jobs", jobs, *words)
 
 
 if __name__ == "__main__":

@@ -2,8 +2,8 @@
 """Builds the library for C, over the libraries that `rt ci` has just proved and left here.
 
 `rt ci` doesn't mark these with what they were made from, and without the marks `rt lib` would prove all of them once more. This
-writes the marks by the module of rt that computes them. Where a kit has no such module all is proved again, which takes longer and
-leaves the same bytes.
+writes the marks by the module of rt that computes them. With a kit that build_crate.py was never tried with all is proved again,
+which takes longer and leaves the same bytes.
 
 usage: tests/build/build_library.py
 """

@@ -30,9 +30,8 @@ BOARD = "claim_board::Board::"
 HEADLINE = {
     "claims": [f"{BOARD}new", *(f"{BOARD}{name}#entry" for name in ("claim", "look", "drain", "complete", "settle", "poll")),
                f"{BOARD}meet", f"{BOARD}finish"],
-    "regions": ["claim_board::no_region_is_read_and_written", "claim_board::other_calls_leave_openings",
-                f"{BOARD}claim#ticket", f"{BOARD}drain#ticket", "claim_board::Ticket::open#owner",
-                "claim_board::Ticket::right#owner", "region_cells::Cells::read#opening", "region_cells::Cells::write#right"],
+    "regions": ["claim_board::writers_have_no_pending_readers", "claim_board::other_calls_leave_openings#rights",
+                f"{BOARD}claim#ticket", "claim_board::Ticket::right#owner", "region_cells::Cells::write#right"],
     "result": ["collector::collect#image", "collector::collect#legal"],
 }
 # The clauses that carry what is promised besides of histories, words, bytes, records and verdicts.

@@ -1,6 +1,6 @@
 #!/usr/bin/env python3
-"""Tests the scripts pcompact, prove and sources.sh, in copies of them and with a stand-in for the kit's rt, which proves
-nothing and "builds" a small program of C that shows its words and its folder, and a library of one function.
+"""Tests the scripts pcompact, prove, sources.sh and build_crate.py, in copies of them and with a stand-in for the kit's rt, which
+proves nothing and "builds" a small program of C that shows its words and its folder, and a library of one function.
 
 usage: tests/build/test_launcher.py      (needs a C compiler)
 """
@@ -18,6 +18,15 @@ TOP = pathlib.Path(__file__).resolve().parents[2]
 PLAIN = "/usr/bin:/bin"
 TUNABLES = ("glibc.malloc.hugetlb=1:glibc.malloc.mmap_max=0:glibc.malloc.arena_max=1:glibc.malloc.tcache_count=0:"
             "glibc.malloc.top_pad=67108864")
+# The kits whose module build_crate.py knows, and others.
+KITS = ("rattle-kit-13b logic dac8208d650f15bf", "rattle-kit-13f logic dac8208d650f15bf")
+OTHER_KITS = ("rattle-kit-13g logic dac8208d650f15bf", "rattle-kit-13f logic 0000000000000000", "rattle-kit-13f", "")
+# What build_crate.py says where it only calls rt.
+TAKES_LONGER = "rt takes longer, as its module isn't the one that is known here"
+# The words of its call in the folder of a crate, but for the last.
+BUILD = ("../../tests/build/build_crate.py", "2")
+# What prove is made of, beside what all scripts share.
+PARTS = ("__init__.py", "build/build_crate.py", "build/crate_checks.py", "build/crate_graph.py")
 NOTE = "pcompact: this program was proved and built elsewhere, from exactly these sources; ./prove proves it here\n"
 
 # Ends with status 3, or 0 for --version, or 1 where it is to look like one that doesn't start.
@@ -40,7 +49,7 @@ name=${PWD##*/}
 echo "$1 $name" >>"$here/calls"
 echo "$* in $PWD" >>"$here/words"
 case $1 in
-version) echo stand-in ;;
+version) cat "$here/kit" ;;
 doc) echo "$here/START-HERE.md" ;;
 lib | test | run)
     # As rt does, it needs the libraries below.
@@ -114,6 +123,7 @@ class Launcher:
             subprocess.run(["cc", "-O1", "-o", self.kit / name, room / "shows.c"], check=True)
         (self.kit / "rt").write_text(STAND_IN)
         (self.kit / "rt").chmod(0o755)
+        self.name_kit("stand-in")
         (room / "part.c").write_text("int part(void) { return 1; }\n")
         subprocess.run(["cc", "-c", "-o", room / "part.o", room / "part.c"], check=True)
         subprocess.run(["ar", "rcsD", self.kit / "part.a", room / "part.o"], check=True)
@@ -121,6 +131,10 @@ class Launcher:
         tools.mkdir(parents=True)
         for name, tool in (("clang", "cc"), ("llvm-ar", "ar")):
             (tools / name).symlink_to(shutil.which(tool))
+
+    def name_kit(self, name: str) -> None:
+        """What `rt version` prints from now on."""
+        (self.kit / "kit").write_text(f"{name}\n")
 
     def repository(self, name: str) -> pathlib.Path:
         """A copy of the scripts, with a file of code for each crate."""
@@ -130,7 +144,8 @@ class Launcher:
             shutil.copy(TOP / it, copy)
         shutil.copytree(TOP / "c", copy / "c")
         (copy / "tests" / "build").mkdir(parents=True)
-        shutil.copy(TOP / "tests" / "build" / "build_crate.py", copy / "tests" / "build")
+        for it in PARTS:
+            shutil.copy(TOP / "tests" / it, copy / "tests" / it)
         for crate in crate_names():
             (copy / "crates" / crate / "src").mkdir(parents=True)
             (copy / "crates" / crate / "src" / "lib.rt").write_text("//! A crate.\n")
@@ -142,8 +157,9 @@ class Launcher:
             self.wrong += 1
             print(what)
 
-    def call(self, words: list, status: int, what: str, **how) -> tuple[str, str]:
-        """Runs a command, which must end with this status. What it wrote, and the calls of rt but for its version and its page."""
+    def call(self, words: list, status: int | None, what: str, **how) -> tuple[str, str]:
+        """Runs a command, which must end with this status if one is given. What it wrote, and the calls of rt but for its version
+        and its page."""
         (self.kit / "calls").write_text("")
         kit = how.pop("kit", True)
         plain = how.pop("tools", PLAIN)
@@ -151,7 +167,7 @@ class Launcher:
         env = {"PATH": path, "HOME": str(self.room / "home"), **how.pop("env", {})}
         done = subprocess.run(words, env=env, cwd=how.pop("cwd", self.room), capture_output=True, text=True, timeout=120)
         said = done.stdout + done.stderr
-        self.check(done.returncode == status, f"{what}: status {done.returncode} and not {status}: {said}")
+        self.check(status in (None, done.returncode), f"{what}: status {done.returncode} and not {status}: {said}")
         calls = (self.kit / "calls").read_text().splitlines()
         return said, " ".join(sorted(it for it in calls if not it.startswith(("version", "doc"))))
 
@@ -188,8 +204,23 @@ def built(crates: list[str]) -> str:
     return " ".join(sorted(f"{'run' if it == 'pcompact' else 'lib'} {it}" for it in crates))
 
 
+def source_of(copy: pathlib.Path, crate: str) -> pathlib.Path:
+    return copy / "crates" / crate / "src" / "lib.rt"
+
+
 def change(copy: pathlib.Path, crate: str, text: str) -> None:
-    (copy / "crates" / crate / "src" / "lib.rt").write_text(f"//! {text}\n")
+    """Changes a source as git and most editors do: a new file takes the place of the old one."""
+    source = source_of(copy, crate)
+    new = source.with_suffix(".new")
+    new.write_text(f"//! {text}\n")
+    new.replace(source)
+
+
+def age(copy: pathlib.Path) -> None:
+    """Dates all files of a copy back, so that a note that is made now is newer."""
+    then = time.time() - 10
+    for path in copy.rglob("*"):
+        os.utime(path, (then, then))
 
 
 def try_first_calls(it: Launcher) -> pathlib.Path:
@@ -226,6 +257,11 @@ def try_paths(it: Launcher, copy: pathlib.Path) -> None:
     (it.room / "folder").symlink_to(copy)
     it.runs(it.room / "link", "a link to the script")
     it.runs(it.room / "folder" / "pcompact", "a link to the folder")
+    (it.room / "linked prove").symlink_to(copy / "prove")
+    for script in (it.room / "linked prove", it.room / "folder" / "prove"):
+        said, calls = it.call([script], 0, f"prove as {script.relative_to(it.room)}")
+        it.check("prove: proved as they stand: " in said and calls == "", f"prove as {script.relative_to(it.room)}: {said!r} {calls}")
+    it.check(not list(copy.rglob("__pycache__")), "prove leaves a __pycache__")
     # Where a part of such a name leads, and the folder above.
     for name in ("", "sp", "two", "ends"):
         stranger = it.room / "odd" / name
@@ -239,8 +275,9 @@ def try_paths(it: Launcher, copy: pathlib.Path) -> None:
         shutil.copytree(copy, odd, symlinks=True)
         it.runs(odd / "pcompact", f"a folder named {name!r}")
         shutil.copy(TOP / "test", odd)
-        said, _ = it.call([odd / "test", "--help"], 0, f"test in a folder named {name!r}")
-        it.check(said.startswith("usage: ./test "), f"test in a folder named {name!r}: it shows {said!r}")
+        for script in ("test", "prove"):
+            said, _ = it.call([odd / script, "--help"], 0, f"{script} in a folder named {name!r}")
+            it.check(said.startswith(f"usage: ./{script} "), f"{script} in a folder named {name!r}: it shows {said!r}")
     shutil.copy(copy / "pcompact", it.room / "alone")
     it.refuses(it.room / "alone", "isn't the folder of the repository", "a copy of the script alone")
 
@@ -265,66 +302,216 @@ def try_changes(it: Launcher, copy: pathlib.Path) -> None:
 
 
 def try_times(it: Launcher, copy: pathlib.Path) -> None:
-    """A changed source whose times are those that were kept: by a clock that was set back since, or when they were kept."""
-    source, found = copy / "crates/pcompact/src/lib.rt", copy / "out/pcompact/found"
+    """A changed source, and a note as new as its folder, or of a time that hasn't come yet."""
+    found = copy / "out/pcompact/found"
     it.runs(copy / "pcompact", "the sources before one changes")
-    line = f"{source.relative_to(copy)} "
-    folder, _, *files = found.read_text().splitlines()
+    note = found.read_text()
     change(copy, "pcompact", "A crumb")
-    listed = ["find", source.relative_to(copy), "-printf", "%p %D %i %s %T@ %C@"]
-    now = subprocess.run(listed, cwd=copy, env={"LC_ALL": "C"}, capture_output=True, text=True, check=True).stdout
-    files = [now if file.startswith(line) else file for file in files]
-    changed = source.stat().st_ctime
-
-    def keep(seconds: float) -> None:
-        found.write_text("".join(f"{it}\n" for it in (folder, int(seconds), *files)))
-
-    for seconds, what in ((changed - 100, "kept by a clock set back"), (changed + 3600, "the clock set back since"),
-                          (changed, "kept at once")):
-        keep(seconds)
+    changed = source_of(copy, "pcompact").parent.stat().st_mtime_ns
+    second = 10**9
+    for moment, what in ((changed - 100 * second, "noted before"), (changed, "noted at once"),
+                         (changed + 3600 * second, "noted by a clock that was set back since")):
+        found.write_text(note)
+        os.utime(found, ns=(moment, moment))
         it.refuses(copy / "pcompact", "wasn't built from these sources", f"a source changed, {what}")
-    # The times alone are looked at where they tell all changes.
-    time.sleep(max(0.0, changed + 1.1 - time.time()))
-    keep(changed + 1)
-    it.runs(copy / "pcompact", "times that tell all changes")
+        it.check(not found.exists(), f"a source changed, {what}: the note stays")
     change(copy, "pcompact", "A crate.")
     it.runs(copy / "pcompact", "the source changed back")
 
 
+def try_in_place(it: Launcher, copy: pathlib.Path) -> None:
+    """A source that is written in place: what tells that the sources have changed all the same."""
+    source = source_of(copy, "pcompact")
+    index = copy / ".git" / "index"
+    index.parent.mkdir()
+    index.write_text("")
+    looks = (("git's index is written", lambda: index.write_text("more")),
+             ("./prove has begun", lambda: (copy / "out/pcompact/build.log").write_text("")),
+             ("a script has looked", lambda: program_path(copy)),
+             ("a file of the same folder is new", (source.parent / "new.rt").touch),
+             ("the program is written", lambda: os.utime(copy / "out/pcompact/pcompact")),
+             ("its stamp is written", lambda: os.utime(copy / "out/pcompact/stamp")),
+             ("HANDLES is written", lambda: os.utime(copy / "HANDLES")),
+             ("another program is shipped", lambda: ship_stamp(copy)))
+    for what, act in looks:
+        age(copy)
+        it.runs(copy / "pcompact", f"before {what}")
+        source.write_text("//! A crumb\n")
+        it.runs(copy / "pcompact", "a source that is written in place")
+        act()
+        it.refuses(copy / "pcompact", "wasn't built from these sources", f"a source that is written in place, and {what}")
+        source.write_text("//! A crate.\n")
+        (source.parent / "new.rt").unlink(missing_ok=True)
+    shutil.rmtree(copy / "dist")
+    shutil.rmtree(index.parent)
+    try_worktree(it, copy)
+
+
+def try_worktree(it: Launcher, copy: pathlib.Path) -> None:
+    """The same in a linked worktree of git, where .git is a file."""
+    source = source_of(copy, "pcompact")
+    index = it.room / "kept by git" / "index"
+    index.parent.mkdir()
+    for place in (index.parent, os.path.relpath(index.parent, copy)):
+        (copy / ".git").write_text(f"gitdir: {place}\n")
+        index.write_text("")
+        age(copy)
+        age(index.parent)
+        it.runs(copy / "pcompact", "in a worktree")
+        source.write_text("//! A crumb\n")
+        it.runs(copy / "pcompact", "in a worktree, a source that is written in place")
+        index.write_text("more")
+        it.refuses(copy / "pcompact", "wasn't built from these sources", f"in a worktree of {place}, git's index is written")
+        source.write_text("//! A crate.\n")
+    (copy / ".git").unlink()
+
+
+def program_path(copy: pathlib.Path) -> None:
+    subprocess.run(["sh", "-c", 'top=$1; . "$top/sources.sh"; program_path', "sh", copy], capture_output=True, check=False)
+
+
+def ship_stamp(copy: pathlib.Path) -> None:
+    """Puts a stamp into dist/ as an archive that keeps times does."""
+    (copy / "dist").mkdir()
+    (copy / "dist" / "stamp").write_text(f"sources {'0' * 64}\n")
+    for path in (copy / "dist" / "stamp", copy / "dist"):
+        os.utime(path, (0, 0))
+
+
+def try_copies(it: Launcher, copy: pathlib.Path) -> None:
+    """A copy whose files all have the time at which they were copied, its note the last: it is of the other folder. Notes that are damaged."""
+    it.runs(copy / "pcompact", "before it is copied")
+    change(copy, "pcompact", "A crumb")
+    other = it.room / "copied"
+    shutil.copytree(copy, other, symlinks=True)
+    found = other / "out/pcompact/found"
+    later = time.time() - 1
+    for path in other.rglob("*"):
+        os.utime(path, (later - 10, later - 10))
+    os.utime(found, (later, later))
+    it.refuses(other / "pcompact", "wasn't built from these sources", "a copy of a changed repository and of its note")
+    shutil.rmtree(other)
+    change(copy, "pcompact", "A crate.")
+    it.runs(copy / "pcompact", "the source that was copied changed back")
+    found = copy / "out/pcompact/found"
+    strange = found.read_text().replace("out/pcompact\n", "../strange\n")
+    for text in (strange, "", "\0\0", "sources\n", strange.partition("../")[0]):
+        age(copy)
+        found.write_text(text)
+        it.runs(copy / "pcompact", f"a note that is {text!r}")
+
+
 def try_links(it: Launcher, copy: pathlib.Path) -> None:
-    """A source that is a link: what it leads to counts."""
-    source = copy / "crates/pcompact/src/lib.rt"
+    """A source that is a link: what it leads to counts once there is a look, and the folder that a link leads to at once."""
+    source = source_of(copy, "pcompact")
     target = it.room / "elsewhere.rt"
     source.rename(target)
     source.symlink_to(target)
+    age(copy)
     it.runs(copy / "pcompact", "a source that is a link")
-    # Then its times are old enough to be believed.
-    time.sleep(3)
-    it.runs(copy / "pcompact", "the same a little later")
     target.write_text("//! A crumb.\n")
+    it.runs(copy / "pcompact", "what a link leads to is written in place")
+    os.utime(copy / "crates.txt")
     it.refuses(copy / "pcompact", "wasn't built from these sources", "what a link leads to changed")
     target.write_text("//! A crate.\n")
     source.unlink()
     target.rename(source)
+    folder = it.room / "folder elsewhere"
+    source.parent.rename(folder)
+    source.parent.symlink_to(folder)
+    age(copy)
+    it.runs(copy / "pcompact", "a folder of sources that is a link")
+    change(copy, "pcompact", "A crumb.")
+    it.refuses(copy / "pcompact", "wasn't built from these sources", "a source below a link changed")
+    change(copy, "pcompact", "A crate.")
+    source.parent.unlink()
+    folder.rename(source.parent)
+
+
+TOOLS = ("sh", "cat", "date", "find", "mkdir", "mv", "readlink", "rm", "sed", "sort", "touch", "xargs", "sha256sum")
 
 
 def try_tools(it: Launcher, copy: pathlib.Path) -> None:
-    """Tools that aren't there: nothing is taken for right that can't be compared."""
-    tools = ("sh", "awk", "cmp", "cut", "cat", "date", "find", "mkdir", "mv", "readlink", "sed", "sort", "xargs", "sha256sum")
+    """Tools that aren't there, or fail: nothing is taken for right that can't be compared, and nothing is proved for it."""
     clone = it.room / "without tools"
-    for missing, status, why in (("sha256sum", 70, "have no checksum here"), ("cut", 70, "have no checksum here"),
-                                 ("sed sha256sum", 70, "have no checksum here"), ("sed", 70, "wasn't built from these sources"),
-                                 ("find", 70, "wasn't built from these sources"), ("xargs", 70, "wasn't built from these sources"),
-                                 ("sort", 70, "wasn't built from these sources"), ("readlink", 70, "isn't the folder"),
-                                 ("awk cmp date mv", 3, "1 x in")):
-        shutil.copytree(copy, clone, symlinks=True)
-        folder = it.room / f"no {missing}"
-        folder.mkdir()
-        for tool in set(tools) - set(missing.split()):
-            (folder / tool).symlink_to(shutil.which(tool, path=PLAIN))
-        said, _ = it.call([shutil.which("sh"), clone / "pcompact", "x"], status, f"without {missing}", kit=False, tools=str(folder))
-        it.check(why in said and ("1 x in" in said) == (status == 3), f"without {missing}: it says {said!r}")
-        shutil.rmtree(clone)
+    rows = [(missing, 70, "the sources have no checksum here: ") for missing in ("sha256sum", "sed", "find", "xargs", "sort", "cat")]
+    for missing, status, why in (*rows, ("date mv readlink touch mkdir", 3, "1 x in")):
+        for stand_in in (None, "#!/bin/sh\nexit 1\n", "#!/bin/sh\necho part\nkill -9 $$\n")[:3 if status == 70 else 2]:
+            shutil.copytree(copy, clone, symlinks=True)
+            folder = it.room / "some tools"
+            folder.mkdir()
+            for tool in set(TOOLS) - set(missing.split()):
+                (folder / tool).symlink_to(shutil.which(tool, path=PLAIN))
+            for tool in missing.split() if stand_in else []:
+                (folder / tool).write_text(stand_in)
+                (folder / tool).chmod(0o755)
+            what = f"{'with a failing' if stand_in else 'without'} {missing}"
+            how = {"before": f"{folder}:{it.kit}", "tools": "/nowhere"}
+            said, calls = it.call([shutil.which("sh"), clone / "pcompact", "x"], status, what, **how)
+            it.check(why in said and ("1 x in" in said) == (status == 3) and said.count("\n") == 1, f"{what}: it says {said!r}")
+            it.check(calls == "", f"{what}: rt is called for {calls!r}")
+            shutil.rmtree(clone)
+            shutil.rmtree(folder)
+
+
+def try_limits(it: Launcher, copy: pathlib.Path) -> None:
+    """Limits on the size of files, on memory and on processes: a note that can't be written is no fault, a look that fails is."""
+    clone = it.room / "limited"
+    for limit in ("-f 0", "-f 1", "-f 64"):
+        clone = shipped(it, copy, f"limited {limit}")
+        for note in (NOTE, "" if (clone / "out/pcompact/found").exists() else None):
+            said, calls = it.call(limited(limit, clone), 3, f"ulimit {limit}")
+            it.check(said.startswith(f"1 a word in {it.room} with ") and calls == "", f"ulimit {limit}: {said!r}, rt is called for {calls!r}")
+            it.check(note is None or said.endswith(f"\n{note}"), f"ulimit {limit}: it says {said!r}")
+            it.check(not list(clone.glob("out/pcompact/found.*")), f"ulimit {limit}: half a note is left")
+    clone = shipped(it, copy, "little memory")
+    said, calls = it.call(limited("-v 4096", clone), None, "ulimit -v 4096")
+    it.check(calls == "" and said.startswith(("pcompact: the sources have no checksum here: ", "1 a word ")), f"ulimit -v 4096: {said!r}")
+    it.check(said.count("\n") == 1, f"ulimit -v 4096: it says {said!r}")
+    clone = shipped(it, copy, "no memory for the program")
+    (clone / "dist/pcompact").chmod(0o644)
+    said, calls = it.call(limited("-v 9999999", clone), 70, "a program that doesn't start under ulimit -v")
+    it.check("ulimit -v" in said and calls == "", f"a program that doesn't start under ulimit -v: {said!r}, rt is called for {calls!r}")
+    clone = shipped(it, copy, "no processes")
+    said, calls = it.call(limited("-p 0", clone), None, "ulimit -p 0")
+    is_run = os.geteuid() == 0 and said.startswith("1 a word ")
+    it.check(calls == "" and (is_run or said.startswith("pcompact: ")), f"ulimit -p 0: {said!r}, rt is called for {calls!r}")
+
+
+def limited(limit: str, copy: pathlib.Path) -> list:
+    return ["sh", "-c", f'ulimit {limit}; exec "$@"', "sh", copy / "pcompact", "a word"]
+
+
+def try_cost(it: Launcher, copy: pathlib.Path) -> None:
+    """What a call takes beside the program, with as many folders as there are: no process but the program's, two looks at each
+    folder, and few milliseconds."""
+    clone = shipped(it, copy, "cost")
+    folders = [path for kind in ("src", "specs") for path in (TOP / "crates").glob(f"*/{kind}/**/")]
+    for folder in folders:
+        (clone / folder.relative_to(TOP)).mkdir(parents=True, exist_ok=True)
+    age(clone)
+    it.runs(clone / "pcompact", "a clone with all folders", NOTE, kit=False)
+    it.runs(clone / "pcompact", "its second call", kit=False)
+    if shutil.which("strace"):
+        log = it.room / "strace.log"
+        it.call([shutil.which("strace"), "-f", "-o", log, clone / "pcompact", "a word"], 3, "a call under strace")
+        calls = re.findall(r"^\d+ +(\w+)\(", log.read_text(), re.MULTILINE)
+        started = [name for name in calls if name.startswith("execve") or "fork" in name or "clone" in name]
+        stats = sum("stat" in name or "access" in name for name in calls)
+        print(f"a call looks at {stats} files, of {len(folders)} folders twice each, and reads {calls.count('getdents64')} folders")
+        it.check(started == ["execve"] * 2, f"a call starts {started}")
+        it.check(stats <= 2 * len(folders) + 60 and "getdents64" not in calls, f"a call looks at {stats} files")
+    words = {"the program": [clone / "dist/pcompact", "a word"], "the launcher": [clone / "pcompact", "a word"]}
+    taken = {name: [] for name in words}
+    for _ in range(200):
+        for name, call in words.items():
+            began = time.perf_counter()
+            subprocess.run(call, stdout=subprocess.DEVNULL, check=False)
+            taken[name].append(1000 * (time.perf_counter() - began))
+    least, middle = ({name: sorted(of)[at] for name, of in taken.items()} for at in (0, 100))
+    more = {name: at["the launcher"] - at["the program"] for name, at in (("least", least), ("middle", middle))}
+    print(f"of 200 calls in turn the middle one takes {more['middle']:.1f} ms more than the program, and the least {more['least']:.1f}")
+    it.check(more["least"] < 8, f"a call takes {more['least']:.1f} ms more than the program")
 
 
 def try_failures(it: Launcher, copy: pathlib.Path) -> None:
@@ -382,13 +569,16 @@ def shipped(it: Launcher, copy: pathlib.Path, name: str) -> pathlib.Path:
 
 
 def try_statements(it: Launcher) -> None:
-    """A kit whose rt is made of a module: libraries keep their statements alone. Else rt proves them."""
+    """The kits whose rt is made of a module that is known: libraries keep their statements alone. Else rt proves them."""
     module = it.kit / "rtlib.py"
     module.write_text(MODULE)
     copy = it.repository("statements")
     libraries = [name for name in program_crates() if name != "pcompact"]
-    said, calls = it.call([copy / "prove"], 0, "libraries that keep statements")
-    it.check(calls == " ".join(sorted(["run pcompact", *(f"statements {name}" for name in libraries)])), f"proved: {calls}")
+    for kit in KITS:
+        it.name_kit(kit)
+        said, calls = it.call([copy / "prove"], 0, f"libraries that keep statements, by {kit}")
+        it.check(calls == " ".join(sorted(["run pcompact", *(f"statements {name}" for name in libraries)])), f"proved by {kit}: {calls}")
+        it.check(TAKES_LONGER not in (copy / "out/pcompact/build.log").read_text(), f"what the log says of {kit}")
     it.call([copy / "prove", "--unpack"], 0, "unpacking them")
     marks = {name: (copy / "crates" / name / "out/rlib/stamp").read_text() for name in libraries}
     it.check(set(marks.values()) == {"marked"}, f"marks of libraries: {marks}")
@@ -400,7 +590,30 @@ def try_statements(it: Launcher) -> None:
     module.write_text("")
     said, calls = it.call([copy / "prove"], 0, "a module without the functions")
     it.check(calls == built(["fill", "collector", "collection_commands", "pcompact"]), f"proved then: {calls}")
+    module.write_text(MODULE)
+    try_other_kits(it, copy)
     module.unlink()
+    it.name_kit(KITS[1])
+    said, calls = it.call([sys.executable, *BUILD, "statements"], 0, "a known kit without its module", cwd=copy / "crates/raw_region")
+    it.check(said.startswith(TAKES_LONGER) and calls == "lib raw_region", f"a known kit without its module: {said!r}, {calls!r}")
+    it.name_kit("stand-in")
+
+
+def try_other_kits(it: Launcher, copy: pathlib.Path) -> None:
+    """A kit that was never tried, whose module has all the functions: rt is called, and a line says so."""
+    crate = copy / "crates/raw_region"
+    for kit in OTHER_KITS:
+        it.name_kit(kit)
+        for verb, called in (("statements", "lib"), ("check", "check"), ("lib", "lib")):
+            said, calls = it.call([sys.executable, *BUILD, verb], 0, f"{verb} by the kit {kit!r}", cwd=crate)
+            it.check(said == f"{TAKES_LONGER}: the kit {kit} was never tried\n" and calls == f"{called} raw_region",
+                     f"{verb} by the kit {kit!r}: {said!r}, rt is called for {calls!r}")
+    it.name_kit(OTHER_KITS[0])
+    _, calls = it.call([copy / "prove"], 0, "prove by a kit that was never tried")
+    it.check(calls == built(program_crates()), f"proved by a kit that was never tried: {calls}")
+    log = (copy / "out/pcompact/build.log").read_text().splitlines()
+    line = f"{TAKES_LONGER}: the kit {OTHER_KITS[0]} was never tried"
+    it.check(log == [line] * len(program_crates()), f"what the log says of a kit that was never tried: {set(log)}")
 
 
 def try_dist(it: Launcher, copy: pathlib.Path) -> None:
@@ -435,7 +648,7 @@ def try_library(it: Launcher, copy: pathlib.Path) -> None:
     clone = shipped(it, copy, "library")
     library, stamp = clone / "dist/libpcompact.a", clone / "dist/stamp"
     members = subprocess.run(["ar", "t", library], capture_output=True, text=True).stdout.split()
-    it.check(sorted(members) == ["heap.o", "in_place.o", "part.o"], f"the library has {members}")
+    it.check(sorted(members) == ["heap.o", "in_place.o", "lent.o", "part.o"], f"the library has {members}")
     finds(it, clone, "dist", "a fresh clone")
     said, calls = it.call([clone / "prove", "pcompact_c"], 0, "prove pcompact_c in a clone")
     it.check("is dist/libpcompact.a, byte for byte" in said and "dist/pcompact" not in said, f"prove pcompact_c: {said!r}")
@@ -452,7 +665,7 @@ def try_library(it: Launcher, copy: pathlib.Path) -> None:
     finds(it, clone, "dist/libpcompact.a wasn't built from these sources", "a stamp of the program alone")
     stamp.write_text(text)
     unbuilt = "wasn't built from these sources"
-    for name, why in (("pcompact.h", "dist/pcompact.h isn't c/pcompact.h"), ("heap.c", unbuilt), ("in_place.c", unbuilt)):
+    for name, why in (("pcompact.h", "dist/pcompact.h isn't c/pcompact.h"), ("heap.c", unbuilt), ("in_place.c", unbuilt), ("lent.c", unbuilt)):
         with (clone / "c" / name).open("a") as file:
             file.write("/* More. */\n")
         finds(it, clone, why, f"c/{name} changed")
@@ -546,6 +759,8 @@ def main() -> int:
         copy = try_first_calls(it)
         try_paths(it, copy)
         try_times(it, copy)
+        try_in_place(it, copy)
+        try_copies(it, copy)
         try_links(it, copy)
         try_tools(it, copy)
         try_changes(it, copy)
@@ -556,6 +771,8 @@ def main() -> int:
         try_dist(it, copy)
         try_library(it, copy)
         try_wrong_dist(it, copy)
+        try_limits(it, copy)
+        try_cost(it, copy)
         try_read_only(it, copy)
         try_tunables(it, copy)
     print(f"{it.count - it.wrong} passed, {it.wrong} failed")

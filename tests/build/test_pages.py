@@ -7,6 +7,8 @@
   program as ./pcompact and on PATH, examples/, docs/heap.svg, and library and header of dist/.
 - No line and no cell of a table is too long, no page has more words than its budget, and no page counts by hand what grows:
   crates, commands, wrong bodies.
+- What ARCHITECTURE says of the crates is what crates.txt and the sources say (architecture.py), README shows the line that the
+  launcher prints in a new clone, and tests/README.md names each script.
 
 usage: tests/build/test_pages.py [PROGRAM] [--write] [PAGE..]      (--write puts what the commands print into the pages)
 """
@@ -21,11 +23,12 @@ import tempfile
 # Finds the package `tests` from any folder, and writes nothing beside its modules.
 sys.dont_write_bytecode = True
 sys.path.insert(0, str(pathlib.Path(__file__).resolve().parents[2]))
+from tests.build.architecture import wrong_architecture
 from tests.support.program import TOP, built
 
 # The most words of a page, and of all pages and all pages of crates together.
 BUDGETS = {
-    "README.md": 900, "CONTRIBUTING.md": 1300, "SECURITY.md": 950, "CHANGELOG.md": 600,
+    "README.md": 900, "CONTRIBUTING.md": 1300, "SECURITY.md": 950, "CHANGELOG.md": 650,
     "docs/ARCHITECTURE.md": 1800, "docs/PROMISES.md": 2600, "docs/HEAP.md": 2300, "docs/SCHEDULER.md": 2600,
     "docs/FORMATS.md": 2600, "docs/COMMANDS.md": 3000, "docs/DECISIONS.md": 3000, "docs/SPEED.md": 1250,
     "docs/COLLECTORS.md": 1450, "docs/TOUR.md": 1000, "docs/USE.md": 1000, "docs/DUMPS.md": 1700, "docs/GENERATE.md": 700,
@@ -143,6 +146,18 @@ def wrong_sums(pages: dict[str, pathlib.Path]) -> list[str]:
     return wrong
 
 
+def wrong_scripts() -> list[str]:
+    """What the pages leave out of the scripts."""
+    said = re.search(r"(?m)^ *echo '(pcompact: .*)' >&2$", (TOP / "pcompact").read_text())[1]
+    wrong = [] if said in (TOP / "README.md").read_text() else [f"README.md doesn't show the line {said}"]
+    tests = (TOP / "tests" / "README.md").read_text()
+    names = {name.partition(".")[0] for name in re.findall(r"`(?:\w+/)?(?:test_)?(\w+(?:\.\w+)?)[^`]*`", tests)}
+    names |= {name + end for name, ends in re.findall(r"(\w+)\{([^}]*)\}", tests) for end in ends.split(",")}
+    scripts = [path for path in TOP.glob("tests/*/test_*") if path.suffix in (".py", ".sh")]
+    return wrong + [f"tests/README.md doesn't name {it.name}" for it in scripts if it.stem.removeprefix("test_") not in
+                    {name.removeprefix("test_") for name in names}]
+
+
 def main() -> None:
     words = argparse.ArgumentParser()
     words.add_argument("given", nargs="*", metavar="PROGRAM | PAGE", type=pathlib.Path)
@@ -174,6 +189,8 @@ def main() -> None:
         tell(name, runs.wrong)
     if not only:
         tell("all pages", wrong_sums(pages))
+        tell("docs/ARCHITECTURE.md", wrong_architecture())
+        tell("the scripts", wrong_scripts())
     print(f"{passed} passed, {failed} failed")
     sys.exit(failed > 0 and not asked.write)
 

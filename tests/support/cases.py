@@ -91,9 +91,9 @@ def try_refused(tried: Tried, text: bytes, said: str) -> None:
     tried.write("image", text)
     tried.write("schedule", ONE_WORKER)
     tried.run("summary image", fault(said))
-    tried.run("collect image out --workers 2", fault(said, {"out": b""}))
-    tried.run("record image out schedule2 --workers 2", fault(said, {"out": b"", "schedule2": b""}))
-    tried.run("upgrade image out", fault(said, {"out": b""}))
+    tried.run("collect image out --workers 2", fault(said, {"out": None}))
+    tried.run("record image out schedule2 --workers 2", fault(said, {"out": None, "schedule2": None}))
+    tried.run("upgrade image out", fault(said, {"out": None}))
     tried.run("replay image schedule", fault(said))
     tried.run("verify image base", fault(said))
     tried.run("verify base image", fault(said))
@@ -127,7 +127,7 @@ def try_upgraded(tried: Tried, text: bytes) -> None:
     tried.write("image", text)
     for words, version in (("", 2), (" --to 2", 2), (" --to 3", 3)):
         if model.decode(text).version > version:
-            tried.run(f"upgrade image rooted{words}", later({"rooted": b""}))
+            tried.run(f"upgrade image rooted{words}", later({"rooted": None}))
             continue
         right = upgraded(text, version)
         roots = f"roots {len(model.decode(right).roots())}\n"

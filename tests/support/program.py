@@ -24,9 +24,9 @@ def built() -> pathlib.Path:
 
 def launcher() -> list[str]:
     """The words before those of a program that run it as the launcher and the installed script do: with what both set."""
-    lines = (TOP / "pcompact").read_text().splitlines()
-    first = next(number for number, line in enumerate(lines) if line.startswith("heaps="))
-    return ["sh", "-c", "\n".join([*lines[first:lines.index("export GLIBC_TUNABLES") + 1], 'exec "$@"']), "sh"]
+    script = (TOP / "pcompact").read_text()
+    settings = [re.search(it, script, re.MULTILINE | re.DOTALL)[0] for it in ("^trap '' XFSZ$", "^heaps=.*^export GLIBC_TUNABLES$")]
+    return ["sh", "-c", "\n".join([*settings, 'exec "$@"']), "sh"]
 
 
 @dataclasses.dataclass(frozen=True)

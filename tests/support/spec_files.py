@@ -14,7 +14,8 @@ PATTERNS = {"zero", "suc", "true", "false", "some", "none", "tt", "_"}
 LANGUAGE = set("Type Unit Self record where module let in if then else tt _ self result Ok Err Some None".split())
 USE = re.compile(r"(?m)^\s*(?:ghost )?use ([\w.?]+?)(?:\.\{([^}]*)\}| as (\w+))?;?$")
 RUST_USE = re.compile(r"(?m)^use (\w+)::([^;]*);")
-ITEM = re.compile(r"^(  )?(?:(?:abbrev|unfoldable) (?:pub )?|(?:pub )?record (?!\w+ =)|(?<! )pub (?=[\w']+ :))(\w[\w']*)")
+ITEM = re.compile(r"^(  )?(?:(?:abbrev|unfoldable) (?:pub )?|(?:pub )?data |(?:pub )?record (?!\w+ =)|(?<! )pub (?=[\w']+ :))(\w[\w']*)")
+DATA = re.compile(r"(?m)^(?:pub )?data (\w+)\b.* where\n((?:  .*\n)+)")
 TYPE = re.compile(r"(?m)^(?:pub(?:\(\w+\))? )?(struct|enum|trait|type|const) (\w+)")
 
 
@@ -94,12 +95,20 @@ def find_meaning(module: str, name: str):
     if parts[0] != "Rattle" or parts[1] not in CRATES or parts[3] == "contracts":
         return f"{module}.{name}"
     if parts[3] != "declared":
-        return Key(f"crates/{parts[1]}/specs/{'/'.join(parts[3:])}.antt", name)
+        file = f"crates/{parts[1]}/specs/{'/'.join(parts[3:])}.antt"
+        return Key(file, constructors_of(file).get(name, name))
     if parts[-1] == "TheConstants":
         return Key(f"crates/{parts[1]}/src/{'/'.join(parts[4:-1])}.rt", name)
     if parts[-1] == "TheVariants":
         parts = parts[:-1]
     return Key(f"crates/{parts[1]}/src/{'/'.join(parts[4:-1])}.rt", parts[-1])
+
+
+@functools.cache
+def constructors_of(file: str) -> dict[str, str]:
+    """The constructors of the data types of a file of `specs`, each with the name of its type."""
+    types = DATA.findall(without_comments((TOP / file).read_text(), "--"))
+    return {constructor: name for name, body in types for constructor in re.findall(r"(?m)^  (\w+) :", body)}
 
 
 @functools.cache
@@ -150,10 +159,10 @@ def read_item(names: Names, header: str, block: list[str]) -> Uses:
     indent = len(block[0]) - len(block[0].lstrip())
     uses = Uses(names, binders(header))
     uses.add(header)
-    pieces = re.split(rf"(?m)^(?= {{{indent}}}\w)|^(?= {{{indent + 2}}}pub \w+ :)", "\n".join(block))
+    pieces = re.split(rf"(?m)^(?= {{{indent}}}\w)|^(?= {{{indent + 2}}}pub [\w-]+ :)", "\n".join(block))
     name = ITEM.match(block[0])[2]
     for piece in filter(str.strip, pieces):
-        field = re.match(r"\s*pub (\w+) :(.*)", piece, re.DOTALL)
+        field = re.match(r"\s*pub ([\w-]+) :(.*)", piece, re.DOTALL)
         clause = re.match(rf"\s*{re.escape(name)}((?: [^=]*?)?) =\s(.*)", piece, re.DOTALL)
         if field:
             uses.add(field[2])
@@ -162,7 +171,7 @@ def read_item(names: Names, header: str, block: list[str]) -> Uses:
             variables = {word for word in re.findall(r"[\w']+", clause[1]) if is_variable(word, names)}
             uses.add(f"{clause[1]} \n{clause[2]}", variables)
         else:
-            words = re.sub(r"^\s*(abbrev|unfoldable|pub|record| )+\w[\w']*", "", piece)
+            words = re.sub(r"^\s*(abbrev|unfoldable|pub|data|record| )+\w[\w']*", "", piece)
             uses.add(words)
             uses.bound = uses.bound | (binders(words) if "record" in piece.split()[:2] else set())
     return uses
@@ -182,6 +191,8 @@ def read_specs(file: str) -> dict[str, Definition]:
     starts = [(number, ITEM.match(line)) for number, line in enumerate(lines) if ITEM.match(line)]
     for _, start in starts:
         names.meanings[start[2]] = Key(file, start[2])
+    for constructor, name in constructors_of(file).items():
+        names.meanings[constructor] = Key(file, name)
     found, header = {}, ""
     for place, (number, start) in enumerate(starts):
         end = starts[place + 1][0] if place + 1 < len(starts) else len(lines)
