@@ -69,8 +69,8 @@ def try_flags(tried: Tried) -> None:
 
 
 def try_help(tried: Tried) -> None:
-    tried.run("--version", Answer(0, "pcompact 0.2.0\n"))
-    tried.run("-V", Answer(0, "pcompact 0.2.0\n"))
+    tried.run("--version", Answer(0, "pcompact 0.3.0\n"))
+    tried.run("-V", Answer(0, "pcompact 0.3.0\n"))
     for words in ("--help", "help", "-h", "board --help", "summary --help", "collect --help", "record --help",
                   "replay --help", "verify --help", "upgrade --help", "import --help", "generate --help", "order --help",
                   "text --help", "assemble --help", "map --help", "timeline --help",
@@ -81,15 +81,14 @@ def try_help(tried: Tried) -> None:
 
 def try_workers(tried: Tried) -> None:
     nothing = {"out": None}
-    untouched = {"out": b""}
     for workers in ("1", "2", "4", "64"):
         tried.run(f"collect base out --workers {workers}", Answer(0, COLLECTED, made={"out": COMPACTED}))
         tried.run(f"record base out schedule --workers {workers}", Answer(0, COLLECTED, made={"out": COMPACTED}))
         tried.run("replay base schedule", Answer(0, tried.read("schedule").decode() + "finished\n"))
     tried.run("collect --workers=2 base out", Answer(0, COLLECTED, made={"out": COMPACTED}))
     for workers in ("0", "65", "4294967295"):
-        tried.run(f"collect base out --workers {workers}", fault("12 workers", untouched))
-        tried.run(f"record base out schedule --workers {workers}", fault("12 workers", untouched))
+        tried.run(f"collect base out --workers {workers}", fault("12 workers", nothing))
+        tried.run(f"record base out schedule --workers {workers}", fault("12 workers", nothing))
     for workers, said in (("abc", "invalid value 'abc' for '--workers <n>': a whole number is wanted"),
                           ("1.5", "invalid value '1.5' for '--workers <n>': a whole number is wanted"),
                           ("", "invalid value '' for '--workers <n>': cannot parse integer from empty string"),
@@ -183,8 +182,8 @@ def try_beginnings(tried: Tried) -> None:
         said = "1 truncated header" if length < 32 else "5 truncated body"
         tried.write("image", BASE[:length])
         tried.run("summary image", fault(said))
-        tried.run("collect image out --workers 2", fault(said, {"out": b""}))
-        tried.run("upgrade image out", fault(said, {"out": b""}))
+        tried.run("collect image out --workers 2", fault(said, {"out": None}))
+        tried.run("upgrade image out", fault(said, {"out": None}))
 
 
 def try_which_fault(tried: Tried) -> None:
@@ -302,6 +301,45 @@ def try_collections(tried: Tried) -> None:
     tried.run("summary image", Answer(0, NOTHING_MOVES))
 
 
+# Of an image of 2 MiB, in regions of 4 KiB, what is kept fits into the first two regions, and a live list follows.
+SPARSE_WORDS, SPARSE_LOG, SPARSE_LIVE = 262_144, 9, range(1_000, 262_000, 9_000)
+# On the disk a file has no more than what is written of it, in blocks of at most 64 KiB.
+SPARSE_BYTES = 4 * 65_536
+
+
+def room_on_disk(tried: Tried, name: str) -> int:
+    return (tried.folder / name).stat().st_blocks * 512
+
+
+def try_holes(tried: Tried) -> None:
+    """The cleared regions of a regular file take no room on the disk, also where they did before."""
+    with (tried.folder / "hole").open("wb") as file:
+        file.truncate(8 * SPARSE_WORDS)
+    if room_on_disk(tried, "hole"):
+        print("files have no holes here, and whether cleared regions are holes is left out")
+        return
+    words = [7] * SPARSE_WORDS
+    for a in SPARSE_LIVE:
+        words[a:a + 20] = [header(20, 0), *range(19)]
+    moved = [word for a in SPARSE_LIVE for word in words[a:a + 20]]
+    moved += [0] * (SPARSE_WORDS - len(moved))
+    live, new_live = list(SPARSE_LIVE), list(range(0, 20 * len(SPARSE_LIVE), 20))
+    roots, new_roots = [1 + live[0], *(1 + a for a in live)], [1, *(1 + a for a in new_live)]
+    line = f"prefix 0 top {20 * len(live)} filled 2\n"
+    for before, after in ((image(words, live, log=SPARSE_LOG), image(moved, new_live, log=SPARSE_LOG)),
+                          *((rooted(words, roots, log=SPARSE_LOG, version=version),
+                             rooted(moved, new_roots, log=SPARSE_LOG, version=version)) for version in (2, 3))):
+        tried.write("image", before)
+        for command in ("collect image out --workers 2", "collect image out --workers 1 --atomic",
+                        "record image out schedule --workers 2", "collect image image --workers 2 --atomic"):
+            name = command.split()[2]
+            tried.write("out", before)
+            tried.run(command, Answer(0, line))
+            tried.count += 1
+            if tried.read(name) != after or room_on_disk(tried, name) > SPARSE_BYTES:
+                tried.is_wrong(f"pcompact {command}: the file has other bytes, or takes {room_on_disk(tried, name)} on the disk")
+
+
 def try_upgrades(tried: Tried) -> None:
     """Images as ones of version 2 and 3, which are collected alike."""
     tried.run("upgrade base out", Answer(0, "roots 4\n", made={"out": rooted(WORDS, [1, 6, 13, 21])}))
@@ -312,7 +350,7 @@ def try_upgrades(tried: Tried) -> None:
     tried.run("upgrade image out", Answer(0, "roots 0\n", made={"out": rooted([999] * 32, [])}))
     tried.write("image", BASE[:319])
     for to in ("", " --to 2", " --to 3"):
-        tried.run(f"upgrade image out{to}", fault("5 truncated body", {"out": b""}))
+        tried.run(f"upgrade image out{to}", fault("5 truncated body", {"out": None}))
     for words, live, allowance, *_ in COLLECTIONS:
         try_upgraded(tried, image(words, live, allowance))
     try_version_3(tried)
@@ -326,11 +364,11 @@ def try_version_3(tried: Tried) -> None:
         tried.run(f"upgrade {name} large --to 3", Answer(0, "roots 4\n", made={"large": large}))
     tried.run("upgrade large out --to 3", Answer(0, "roots 4\n", made={"out": large}))
     for to in ("", " --to 2"):
-        tried.run(f"upgrade large out{to}", later({"out": b""}))
+        tried.run(f"upgrade large out{to}", later({"out": None}))
         tried.run(f"upgrade large out{to} --atomic", later({"out": None}))
         tried.run(f"upgrade large large --atomic{to}", later({}))
         tried.run(f"upgrade large out{to} --verbose",
-                  Answer(1, err="pcompact: version 3 can't be upgraded to version 2\npcompact: file IMAGE large\n", made={"out": b""}))
+                  Answer(1, err="pcompact: version 3 can't be upgraded to version 2\npcompact: file IMAGE large\n", made={"out": None}))
     if tried.read("large") != large:
         tried.is_wrong("a refused upgrade in place changes the image")
     for to, said in (("1", "1 is not in 2..=3"), ("4", "4 is not in 2..=3"), ("two", "a whole number is wanted")):
@@ -468,7 +506,7 @@ def try_files(tried: Tried) -> None:
     for name in ("folder", "nothing/out"):
         tried.run(f"collect base {name} --workers 1", fault(FAULT_13))
         tried.run(f"upgrade base {name}", fault(FAULT_13))
-        tried.run(f"record base out {name} --workers 1", fault(FAULT_13, {"out": b""}))
+        tried.run(f"record base out {name} --workers 1", fault(FAULT_13, {"out": None}))
         tried.run(f"record base {name} schedule2 --workers 1", fault(FAULT_13, {"schedule2": None}))
     same = Answer(2, err="pcompact: same file\n")
     for words in ("collect base base --workers 1", "record base base s --workers 1", "record base out base --workers 1",
@@ -476,6 +514,46 @@ def try_files(tried: Tried) -> None:
         tried.run(words, same)
     if tried.read("base") != BASE:
         tried.is_wrong("an image that was named twice is changed")
+
+
+def try_kept(tried: Tried) -> None:
+    """Files to write are as they were where IMAGE is none, is of a later version, or the workers are too many."""
+    tried.write("base", BASE)
+    rows = [(text, words) for text in (b"", b"\x89PNG\r\n", BASE[:100], BASE + b"\0")
+            for words in ("collect image out --workers 2", "record image out schedule --workers 2", "upgrade image out")]
+    rows += [(BASE, "collect image out --workers 65"), (BASE, "record image out schedule --workers 0"),
+             (upgraded(BASE, 3), "upgrade image out"), (BASE, "record image out nothing/schedule --workers 1")]
+    for text, words in rows:
+        tried.write("image", text)
+        for name in ("out", "schedule"):
+            tried.write(name, "yesterday's")
+        tried.run(words, Answer(1, err=re.compile("pcompact: .*\n")))
+        if (tried.read("out"), tried.read("schedule")) != (b"yesterday's", b"yesterday's"):
+            tried.is_wrong(f"pcompact {words}: a file is another")
+
+
+# Commands that make OUT, and find then that they can't fill it.
+UNFILLED = {
+    "import cut OUT": Answer(1, err="pcompact: byte 0: this is no heap dump of version 1.0.1 or 1.0.2\n"),
+    "assemble wrong OUT": Answer(1, err="pcompact: TEXT line 1: expected `heap version 1`, `heap version 2` or `heap version 3`\n"),
+    "generate OUT --words 65 --live 50 --region-log 3 --seed 1":
+        Answer(2, err="pcompact: 65 words are not a multiple of the 8 words of a region\n"),
+    "map cut --svg OUT": fault("5 truncated body"),
+    "timeline base wrong --svg OUT": fault("14 schedule line 1"),
+    "timeline base wrong --html OUT": fault("14 schedule line 1"),
+}
+
+
+def try_unfilled(tried: Tried) -> None:
+    """A file that was made and can't be filled goes again, also where it was made through a link, which stays."""
+    tried.write("cut", BASE[:319])
+    tried.write("wrong", "x\n")
+    (tried.folder / "to_made").symlink_to("made")
+    for words, answer in UNFILLED.items():
+        for name in ("made", "to_made"):
+            tried.run(words.replace("OUT", name), dataclasses.replace(answer, made={"made": None}))
+        if os.readlink(tried.folder / "to_made") != "made":
+            tried.is_wrong(f"pcompact {words}: the link is another")
 
 
 def try_names(tried: Tried) -> None:
@@ -538,7 +616,9 @@ def try_devices(tried: Tried) -> None:
     tried.run("collect base /dev/full --workers 2", fault(FAULT_13))
     tried.run("upgrade base /dev/full", fault(FAULT_13))
     tried.run("record base out /dev/full --workers 1", fault(FAULT_13, {"out": COMPACTED}))
-    tried.run("record base /dev/full schedule --workers 1", fault(FAULT_13, {"schedule": b""}))
+    tried.write("dead", image([7] * 64, []))
+    tried.run("record dead out /dev/full --workers 1", fault(FAULT_13, {"out": image([0] * 64, [])}))
+    tried.run("record base /dev/full schedule --workers 1", fault(FAULT_13, {"schedule": None}))
     with FULL.open("wb") as full:
         for words in ("board", "--help", "--version", "summary base", "replay base schedule2", "verify base after"):
             tried.write("schedule2", ONE_WORKER)
@@ -549,15 +629,11 @@ def try_devices(tried: Tried) -> None:
         tried.run("summary nothing", Answer(1), stderr=full)
         tried.run("sweep", Answer(2), stderr=full)
         tried.run("board", dataclasses.replace(Answer(0), out=None), stderr=full)
-    tried.run("board", fault(FAULT_13), stdout=None, preexec_fn=lambda: os.close(1))
-    made = {"out": COMPACTED, "schedule": ONE_WORKER.encode()}
-    tried.run("record base out schedule --workers 1", Answer(1, made=made), stdin=None, stdout=None, stderr=None,
-              preexec_fn=lambda: os.closerange(0, 3))
 
 
 GROUPS = (try_words, try_flags, try_help, try_workers, try_images, try_malicious_images, try_beginnings, try_which_fault,
-          try_collections, try_upgrades, try_verdicts, try_malformed_schedules, try_refused_schedules,
-          try_edited_schedules, try_open_replies, try_files, try_names, try_unreadable, try_devices)
+          try_collections, try_holes, try_upgrades, try_verdicts, try_malformed_schedules, try_refused_schedules,
+          try_edited_schedules, try_open_replies, try_files, try_kept, try_unfilled, try_names, try_unreadable, try_devices)
 
 if __name__ == "__main__":
     sys.exit(try_groups(GROUPS))

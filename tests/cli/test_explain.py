@@ -4,6 +4,7 @@ each version, and compares all of standard error with a plain model. Without the
 
 usage: tests/cli/test_explain.py [PROGRAM]
 """
+import dataclasses
 import pathlib
 import subprocess
 import sys
@@ -12,13 +13,15 @@ import sys
 sys.dont_write_bytecode = True
 sys.path.insert(0, str(pathlib.Path(__file__).resolve().parents[2]))
 from tests.models.explanation import verified
-from tests.models.image import decode, encode, upgraded
+from tests.models.image import Collection, Image, decode, encode, header, upgraded
 from tests.support.cases import BASE, COMPACTED, MOVED, MOVED_LIVE, image, try_groups, with_word
 from tests.support.program import TOP, Answer, Tried
 from tests.support.terminal import on_terminal
 
 COLLECTOR = TOP / "examples" / "collector.py"
 BUGS = ["", "reference", "data", "plan", "null", "filler", "free", "root"]
+# More than 16 MiB.
+LARGE = 2 ** 21 + 512
 HEAPS = [(version, live, allowance) for version in (1, 2, 3) for live, allowance in ((20, 0), (50, 40), (90, 400))]
 
 
@@ -59,6 +62,23 @@ def try_others(tried: Tried) -> None:
         try_pair(tried, BASE, after)
 
 
+def try_broken(tried: Tried) -> None:
+    """Files that are no images, in each version and of more than 16 MiB: a reference leads above the heap, and a word above the
+    top and the last root or live address are others."""
+    words = [0] * LARGE
+    words[1000:1003], words[2_000_000:2_000_003] = [header(3, 1), 2_000_001, 7], [header(3, 1), 1001, 8]
+    for before in (*(upgraded(decode(BASE), version) for version in (1, 2, 3)), Image(3, 9, 0, words, [1001, 2_000_001])):
+        after = Collection(before).compaction()
+        length = len(after.words)
+        spoiled = with_word(with_word(after.words, 1, length + 1), length - 1, 77)
+        texts = encode(before), encode(dataclasses.replace(after, words=spoiled, tail=[*after.tail[:-1], after.tail[-1] + 1]))
+        try_pair(tried, *texts)
+        whole, below_top = verified(*texts), verified(*texts, ignore_free=True)
+        tried.count += 1
+        if not whole[0].startswith("fault ") or len(below_top) != len(whole) - 1:
+            tried.is_wrong(f"of a file that is no image {below_top} is said of the words below the top, and {whole} of all")
+
+
 def try_heaps(tried: Tried) -> None:
     try_bugs(tried, BASE)
     for version in (2, 3):
@@ -79,7 +99,7 @@ def try_terminal(tried: Tried) -> None:
             tried.is_wrong(f"verify before after {option}, on a terminal: {found}")
 
 
-GROUPS = (try_others, try_heaps, try_terminal)
+GROUPS = (try_others, try_broken, try_heaps, try_terminal)
 
 if __name__ == "__main__":
     sys.exit(try_groups(GROUPS))

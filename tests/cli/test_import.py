@@ -191,6 +191,36 @@ def try_list_files(tried: Tried) -> None:
     tried.run("import dump out --classes list --histogram 7 --json", text)
 
 
+def named_dump(id_size: int, names: list[bytes], count: int) -> bytes:
+    """A dump with classes of these names, and this many instances of each, as small as objects are."""
+    to = dump_writer.Writer(id_size)
+    classes = range(64, 64 + 64 * len(names), 64)
+    for number, (class_, name) in enumerate(zip(classes, names), 1):
+        to.record(0x01, to.id(number) + name)
+        to.record(0x02, struct.pack(">I", number) + to.id(class_) + bytes(4) + to.id(number))
+    heap = [to.class_(class_) for class_ in classes]
+    heap += [to.instance(65_536 + 8 * (count * at + i), class_) for at, class_ in enumerate(classes) for i in range(count)]
+    return to.record(0x0C, b"".join(heap)).text()
+
+
+def try_long_names(tried: Tried) -> None:
+    """Names around the most bytes that are shown, alike up to there, of what takes four bytes each, and longer than any machine has:
+    the lists are the model's, and no longer than the multiple of the dump in docs/DUMPS.md."""
+    most = dump_model.MOST_SHOWN
+    names = [b"a" * (most - 1), b"b" * most, b"c" * most + b"1", b"c" * most + b"2", b"\\" * (most + 1), b"/" * 65_536,
+             b"[L" + b"x" * 200_000, b"java/lang/Class" + b"/" * most, b"\n" * most + b"live\n"]
+    # The last row is worst: the least objects, with all that is shown of a name as `\xNN`.
+    for id_size, part, count in ((4, names, 3), (8, names, 3), (8, names[-3:-2], 2000), (4, [b"\0" * 501], 2000)):
+        data = named_dump(id_size, part, count)
+        tried.write("dump", data)
+        lists, made = dump_model.lists(data, rows=9), dump_model.make(data)
+        both = {"out": made.image, "list": lists.objects.encode()}
+        tried.run("import dump out --classes list --histogram 9", Answer(0, f"{made.line}\n{lists.histogram}", made=both))
+        told = len(tried.read("list"))
+        if told > 122 * len(data) or lists.objects.count("\n") != int(made.line.split()[3]):
+            tried.is_wrong(f"a list of {told} bytes of a dump of {len(data)}, {lists.objects.count(chr(10))} rows: {made.line}")
+
+
 def try_sample(tried: Tried) -> None:
     """The dump that was worked by hand, whole and of its live objects alone; and each beginning of it."""
     tried.write("dump", sample())
@@ -333,7 +363,7 @@ def try_import_files(tried: Tried) -> None:
         tried.is_wrong("a dump that was named twice is changed")
 
 
-GROUPS = (try_imports, try_lists, try_sample, try_malformed_dumps, try_most_words, try_sparse, try_refused_dumps, try_import_words,
+GROUPS = (try_imports, try_lists, try_long_names, try_sample, try_malformed_dumps, try_most_words, try_sparse, try_refused_dumps, try_import_words,
           try_import_files)
 
 if __name__ == "__main__":

@@ -20,6 +20,7 @@ from tests.models.generated_heap import Wanted, generated
 from tests.support.cases import BASE, LIVE, WORDS, image, rooted, try_groups
 from tests.support.contrast import over, schemes, worst
 from tests.support.program import Answer, Tried, fault, usage
+from tests.support.terminal import on_terminal
 
 FULL = pathlib.Path("/dev/full")
 FAULT_13 = "13 input or output"
@@ -187,6 +188,28 @@ def try_terminal(tried: Tried) -> None:
         os.close(ours)
         if rows == 2 and shown != IN_ROWS or shown.count("|\n") + shown.count(" MiB\n") < rows:
             tried.is_wrong(f"map on a terminal of {names}: {shown!r}")
+
+
+# Of terminals with so many columns and lines the cells of a row, the rows of a strip, and those with `--after`.
+TERMINALS = (
+    (120, 40, 100, 17, 8), (37, 25, 17, 10, 5), (36, 24, 16, 9, 4), (35, 9, 16, 2, 1), (21, 8, 16, 1, 1), (20, 7, 16, 1, 1),
+    (3, 6, 16, 1, 1), (1, 1, 16, 1, 1),
+)
+
+
+def try_sizes(tried: Tried) -> None:
+    """A row has as many cells as fit between its name and its address, and sixteen at least. A strip has as many rows as fit
+    with the figures, the legend and a prompt, and one at least."""
+    heap, _ = generated(Wanted(8192, 5, 50, 25, 2, 300, 6))
+    collection = model.Collection(heap)
+    tried.write("heap", model.encode(heap))
+    for columns, lines, cells, *rows in TERMINALS:
+        for option, height in zip(("", " --after"), rows):
+            words = f"map heap --letters --no-color{option}"
+            status, shown = on_terminal(tried, words, "stdout", env={**os.environ, "COLUMNS": str(columns), "LINES": str(lines)})
+            is_fit = height == 1 or shown.count("\n") < lines
+            if (status, shown) != (0, collection.map(cells, bool(option), height)) or not is_fit:
+                tried.is_wrong(f"{words}, on a terminal of {columns} columns and {lines} lines: {shown}")
 
 
 def drawing(tried: Tried, name: str) -> xml.etree.ElementTree.Element:
@@ -377,7 +400,7 @@ def try_files(tried: Tried) -> None:
         "pcompact: reason no such file or folder\n")))
 
 
-GROUPS = (try_rows, try_words, try_looks, try_terminal, try_drawings, try_contrast, try_names, try_large_drawings, try_most_regions, try_files)
+GROUPS = (try_rows, try_words, try_looks, try_terminal, try_sizes, try_drawings, try_contrast, try_names, try_large_drawings, try_most_regions, try_files)
 
 if __name__ == "__main__":
     sys.exit(try_groups(GROUPS))

@@ -31,7 +31,7 @@ COMMANDS = [
     ("collect base out --workers 2", ["out"], [READ, WORK, WRITE]),
     ("record base out list --workers 1", ["out", "list"], [READ, WORK, WRITE, WRITE]),
     ("replay base schedule", [], [READ, WORK, READ, WORK]),
-    ("verify base compacted", [], [READ, WORK, READ, WORK]),
+    ("verify base compacted", [], [READ, READ, WORK, WORK]),
     ("upgrade base out", ["out"], [READ, WORK, WRITE]),
     ("import dump out", ["out"], [READ, WORK, READ, WORK, WRITE]),
     (f"generate out {SEEDED}", ["out"], [WRITE]),

@@ -191,7 +191,7 @@ def try_refused_roots(tried: Tried) -> None:
         said = "1 truncated header" if length < FRONT.size else "5 truncated body"
         tried.write("image", ROOTED_BASE[:length])
         tried.run("summary image", fault(said))
-        tried.run("collect image out --workers 2", fault(said, {"out": b""}))
+        tried.run("collect image out --workers 2", fault(said, {"out": None}))
 
 
 def try_rooted_verdicts(tried: Tried) -> None:
@@ -282,7 +282,7 @@ def try_rooted_schedules(tried: Tried) -> None:
     tried.write("schedule", ONE_WORKER)
     tried.run("replay image schedule", fault("14 schedule line 10"))
     for workers in (0, 65):
-        tried.run(f"collect rooted out --workers {workers}", fault("12 workers", {"out": b""}))
+        tried.run(f"collect rooted out --workers {workers}", fault("12 workers", {"out": None}))
 
 
 def in_bytes(words: list[int], roots: list[int], log: int = 9) -> bytes:

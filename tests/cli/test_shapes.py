@@ -102,10 +102,7 @@ def try_wrong_heads(tried: Tried) -> None:
     tried.write("image", BASE)
     for words, made in COMMANDS.items():
         file = "BEFORE" if words.startswith("verify") else "IMAGE"
-        files = {name: b"" if name in ("out", "schedule") and "atomic" not in words else None for name in made}
-        if words.startswith("record"):
-            files = {"out": b"", "schedule": b""}
-        tried.run(f"{words} --region-log 6 --verbose", told(length, f"file {file} image", partial, made=files))
+        tried.run(f"{words} --region-log 6 --verbose", told(length, f"file {file} image", partial, made=dict.fromkeys(made)))
         tried.write("schedule", ONE_WORKER)
         tried.write("out", COMPACTED)
     # What is too many regions, or no region log, in the head alone.

@@ -123,9 +123,23 @@ def try_figures(tried: Tried) -> None:
             is_right = is_right and (told["heap"], told["share"], told["live"]) == (8.0, 50.0, 4.0) and rates[1] - 1 <= told["rate"] <= rates[0] + 1
         if not is_right:
             tried.is_wrong(f"pcompact {words} --stats tells {done.stderr!r}, and {passed} ms have passed")
-    one = {"preexec_fn": lambda: os.sched_setaffinity(0, {min(os.sched_getaffinity(0))})}
-    lines = [line.replace("threads #", "threads 1") for line in lines_of(VERIFY, None)]
-    tried.run("verify base compacted --stats", Answer(0, "same\n", re.compile(matching(lines))), **one)
+    try_prefix(tried)
+    processors = sorted(os.sched_getaffinity(0))
+    for number in {1, min(2, len(processors))}:
+        lines = [line.replace("threads #", f"threads {number}") for line in lines_of(VERIFY, None)]
+        tried.run("verify base compacted --stats", Answer(0, "same\n", re.compile(matching(lines))),
+                  preexec_fn=lambda: os.sched_setaffinity(0, processors[:number]))
+
+
+def try_prefix(tried: Tried) -> None:
+    """What lies in the dense prefix is kept and doesn't move."""
+    done = subprocess.run([tried.program, *"collect large again --workers 1 --allowance 200000 --stats".split()], cwd=tried.folder,
+                          capture_output=True, text=True)
+    prefix, top = (int(number) for number in re.match(r"prefix (\d+) top (\d+) ", done.stdout).groups())
+    told = figures_of(done.stderr)
+    tried.count += 1
+    if prefix * 8 < MIB or (told["live"], told["share"]) != (round((top - prefix) * 8 / MIB, 1), round(100 * top / MIB, 1)):
+        tried.is_wrong(f"of a prefix of {prefix} words and a top of {top} is told {done.stderr!r}")
 
 
 def try_peak(tried: Tried) -> None:
@@ -248,7 +262,10 @@ def try_failing(tried: Tried, source: str, name: str, fault: str) -> None:
     for words, phases, out, made in COMMANDS:
         for number, done in each(tried, words, list(made), library, name):
             is_fault = done.returncode == 1 and done.stdout == "" and done.stderr == fault
-            is_right = (done.returncode == 0 and done.stdout == out and is_part(done.stderr, lines_of(phases, workers_of(words)))
+            # The line is on standard error where it can't be told whether a file is standard output.
+            lines = done.stderr if done.stdout else done.stderr.removeprefix(out)
+            is_right = (done.returncode == 0 and done.stdout + done.stderr == out + lines
+                        and is_part(lines, lines_of(phases, workers_of(words)))
                         and all(tried.read(file) == content for file, content in made.items()))
             if not (is_right if number == 0 else is_fault or is_right):
                 tried.is_wrong(f"pcompact {words} --stats, {name} {number}: status {done.returncode}, {done.stderr!r}")

@@ -6,6 +6,7 @@ usage: tests/cli/test_streams.py [PROGRAM]
 import json
 import os
 import pathlib
+import re
 import subprocess
 import sys
 
@@ -19,6 +20,16 @@ from tests.support.cases import BASE, COLLECTED, COMPACTED, REPORT, image, roote
 from tests.support.program import Answer, Tried
 from tests.support.terminal import on_terminal
 
+# Of each line that may print an object the options that may have a value.
+OBJECTS = {
+    "summary base": ("--verbose",),
+    "order base": ("--verbose",),
+    "collect base out --workers 2": ("--verbose", "--progress"),
+    "verify base compacted": ("--verbose", "--progress"),
+    "import dump out": ("--verbose", "--progress"),
+    "import dump out --classes list": ("--verbose", "--progress"),
+    "import dump out --histogram 3": ("--verbose", "--progress"),
+}
 SAME = Answer(2, err="pcompact: same file\n")
 IRREGULAR = Answer(2, err="pcompact: not a regular file\n")
 
@@ -88,6 +99,9 @@ def try_objects(tried: Tried) -> None:
         tried.count += 1
         if json.loads(said.stdout) != wanted or said.stderr or said.stdout.count("\n") != 1:
             tried.is_wrong(f"pcompact {words} --json: {said}")
+        for option in ("--verbose=always", "--verbose=never", "--verbose=auto"):
+            tried.run(f"{words} --json {option}", Answer(0, said.stdout))
+    tried.run("collect base out --workers 2 --json --progress=never", Answer(0, '{"prefix":0,"top":19,"filled":3}\n', made={"out": COMPACTED}))
     tried.run("collect base out --workers 2", Answer(0, COLLECTED))
     tried.run("verify base out --json", Answer(0, '{"same":true}\n'))
     tried.run("verify base base --json", Answer(1, err="pcompact: differs word 1\n"))
@@ -98,6 +112,21 @@ def try_objects(tried: Tried) -> None:
     tried.count += 1
     if json.loads(said.stdout) != {"prefix": 0, "top": 19, "regions": regions}:
         tried.is_wrong(f"pcompact summary base --json: {said}")
+
+
+def try_objects_beside(tried: Tried) -> None:
+    """An object stays one beside each option with a value."""
+    tried.write("dump", DUMP)
+    tried.write("compacted", COMPACTED)
+    for words, options in OBJECTS.items():
+        words = f"{words} --json"
+        said = subprocess.run([tried.program, *words.split()], cwd=tried.folder, capture_output=True, text=True).stdout
+        tried.count += 1
+        if not isinstance(json.loads(said), dict):
+            tried.is_wrong(f"pcompact {words}: {said!r}")
+        for option in (f"{name}={when}" for name in options for when in ("auto", "always", "never")):
+            err = re.compile(".*", re.DOTALL) if option == "--progress=always" else ""
+            tried.run(f"{words} {option}", Answer(0, said, err))
 
 
 def try_terminal(tried: Tried) -> None:
@@ -148,7 +177,7 @@ def try_gone(tried: Tried) -> None:
             tried.is_wrong(f"pcompact {words} | head -c 4: {process.returncode}, {said!r}")
 
 
-GROUPS = (try_standard, try_pieces, try_dumps, try_objects, try_terminal, try_heading, try_gone)
+GROUPS = (try_standard, try_pieces, try_dumps, try_objects, try_objects_beside, try_terminal, try_heading, try_gone)
 
 if __name__ == "__main__":
     sys.exit(try_groups(GROUPS))

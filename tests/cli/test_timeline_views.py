@@ -25,7 +25,7 @@ from tests.cli.test_timeline import BLOCK_HANDS, MARKS
 from tests.models import image as model
 from tests.models.generated_heap import Wanted, generated
 from tests.models.schedule import Line, Machine, Schedule, fill, read
-from tests.models.timeline import LEGEND, Timeline, stages_at
+from tests.models.timeline import LEGEND, LETTERS, Timeline, stages_at
 from tests.support.browser import layout, part, run_page, runner
 from tests.support.cases import LIVE, WORDS, image
 from tests.support.contrast import schemes, worst
@@ -34,6 +34,8 @@ from tests.support.program import TOP, Answer, Tried, built
 SVG = "{http://www.w3.org/2000/svg}"
 MAX_BYTES = 300_000
 SHOWN_BARS, SHOWN_FREEINGS = 200, 300
+# Half of these are filled, and all but one freed: about as many as a drawing shows, and more.
+SPREAD_REGIONS = (201, 301, 302, 400, 402, 500)
 # Of the schedule below, with a bar of each region and each kind of line from a drain to who takes the region.
 DRAWN = TOP / "tests" / "rows" / "timeline.svg"
 
@@ -282,8 +284,42 @@ def try_seeded(tried: Tried) -> None:
         tried.is_wrong(f"only {many} schedules have more than 64 lines")
 
 
+def spread(regions: int) -> model.Image:
+    """A heap of regions of eight words, of each of which the first four are an object."""
+    return model.Image(1, 3, 0, [model.header(4, 0), 1, 2, 3, *[0] * 4] * regions, list(range(0, 8 * regions, 8)))
+
+
+def try_many(tried: Tried) -> None:
+    """Schedules of about as many regions and freed regions as a drawing shows each of, and of more."""
+    chance = random.Random(11)
+    seen = set()
+    for regions in SPREAD_REGIONS:
+        heap = spread(regions)
+        for workers in (2, 64):
+            schedule = interleaved(model.Collection(heap), workers, chance)
+            timeline = Timeline(schedule, "finished")
+            tried.count += 1
+            if (len(timeline.bars), len(timeline.freeings)) != (-(-regions // 2), regions - 1):
+                tried.is_wrong(f"of {regions} regions {len(timeline.bars)} are filled, and {len(timeline.freeings)} freed")
+            tried.write("heap", model.encode(heap))
+            tried.write("schedule", schedule.text())
+            try_drawing(tried, timeline)
+            seen |= {look for look, _ in shares_drawn(tried)}
+    tried.count += 1
+    if seen != {"s1", "s2", "s3", "s4"}:
+        tried.is_wrong(f"the drawings show only the shares {seen}")
+
+
+def shares_drawn(tried: Tried) -> list[tuple[str, str]]:
+    """The look and the title of each share that is drawn."""
+    root = xml.etree.ElementTree.fromstring(tried.read("drawn"))
+    rects = [rect for rect in root.iter(f"{SVG}rect") if rect.find(f"{SVG}title") is not None]
+    return [(rect.get("class"), rect.find(f"{SVG}title").text) for rect in rects]
+
+
 def try_drawing(tried: Tried, timeline: Timeline) -> None:
-    """A drawing has a title for each bar and each freed region, or for each cell in which a worker has a region in hand."""
+    """A drawing has a title for each bar and each freed region that is shown, or for each cell in which a worker has a region
+    in hand, coloured by its share of the lines."""
     tried.run("timeline heap schedule --svg drawn", Answer(0, timeline.figures()))
     text = tried.read("drawn")
     if len(text) >= MAX_BYTES:
@@ -293,12 +329,15 @@ def try_drawing(tried: Tried, timeline: Timeline) -> None:
     bars = sorted(title for title in titles if title.startswith("region "))
     freeings = [title for title in titles if title.startswith("line ")]
     if len(timeline.bars) > SHOWN_BARS:
-        if titles != [title for worker in range(timeline.schedule.workers) for title in share_titles(timeline, worker)]:
+        if shares_drawn(tried) != [share for worker in range(timeline.schedule.workers) for share in shares(timeline, worker)]:
             tried.is_wrong("a drawing has other shares")
+        if bars or freeings:
+            tried.is_wrong("a drawing has bars beside shares")
         return
     if bars != sorted(bar_title(bar) for bar in timeline.bars):
         tried.is_wrong("a drawing has other bars")
-    if len(timeline.freeings) <= SHOWN_FREEINGS and freeings != [freeing.text() for freeing in timeline.freeings]:
+    every = max(1, -(-len(timeline.freeings) // SHOWN_FREEINGS))
+    if freeings != [freeing.text() for freeing in timeline.freeings[::every]]:
         tried.is_wrong("a drawing has other freed regions")
     for group in root.iter(f"{SVG}g"):
         if group.find(f"{SVG}title") is not None and wrong_look(group):
@@ -307,6 +346,8 @@ def try_drawing(tried: Tried, timeline: Timeline) -> None:
     for name in ("being filled", "completed, not settled yet", "a drain frees a region", "lines of the schedule, not time", "Heap heap, schedule schedule"):
         if name not in legend:
             tried.is_wrong(f"a drawing has no legend for {name}")
+    if (f"Of each {every} drains that freed a region one is shown." in legend) != (every > 1):
+        tried.is_wrong(f"a drawing of {len(timeline.freeings)} freed regions says otherwise how many it leaves out")
 
 
 def wrong_look(group: xml.etree.ElementTree.Element) -> list[str]:
@@ -319,13 +360,15 @@ def wrong_look(group: xml.etree.ElementTree.Element) -> list[str]:
     return [] if looks in ([filled], [filled, "w"]) and ("w" in looks) == ("completed in" in title) else looks
 
 
-def share_titles(timeline: Timeline, worker: int) -> list[str]:
-    """The titles of the cells of a worker's lane in which it has a region in hand, where regions are too many for a bar each."""
-    titles = []
+def shares(timeline: Timeline, worker: int) -> list[tuple[str, str]]:
+    """The looks and titles of the cells of a worker's lane in which it has a region in hand, where regions are too many for a
+    bar each."""
+    found = []
     for cell in timeline.cells(min(275, 2000 // timeline.schedule.workers)):
         held = min(timeline.held(worker, cell), len(cell))
-        titles += [f"lines {cell[0]} to {cell[-1]}: {held} of {len(cell)}"] * (held > 0)
-    return titles
+        look = f"s{LETTERS.index(timeline.share(worker, cell))}"
+        found += [(look, f"lines {cell[0]} to {cell[-1]}: {held} of {len(cell)}")] * (held > 0)
+    return found
 
 
 def bar_title(bar) -> str:
@@ -422,7 +465,7 @@ def main() -> None:
     words.add_argument("--write", action="store_true")
     asked = words.parse_args()
     name = runner()
-    groups = [try_base, try_open, try_contrast, try_seeded, *([try_pages, try_large, try_layout] if name else [])]
+    groups = [try_base, try_open, try_contrast, try_seeded, try_many, *([try_pages, try_large, try_layout] if name else [])]
     with tempfile.TemporaryDirectory() as room:
         tried = Tried(asked.program or built(), pathlib.Path(room))
         if asked.write:

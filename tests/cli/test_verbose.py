@@ -6,6 +6,7 @@ In the end each allocation of some runs is refused in turn: the line that is owe
 
 usage: tests/cli/test_verbose.py [PROGRAM]      (needs a C compiler)
 """
+import errno
 import os
 import pathlib
 import subprocess
@@ -270,9 +271,23 @@ def try_generated(tried: Tried) -> None:
              told("65 words are not a multiple of the 8 words of a region", status=2))
 
 
-def failing(tried: Tried, call: str, words: str) -> str:
-    """What the program says at length on words, where this call of the system fails each time."""
-    run = ["sh", "-c", 'exec "$@" 3>/dev/null', "sh", "env", f"FAILS={call}", f"LD_PRELOAD={tried.folder / 'stranger.so'}"]
+# What writes a file `kept`, and the word for that file.
+WRITING = {"collect base kept --workers 1": "OUT", "upgrade base kept": "OUT", "record base kept made --workers 1": "OUT",
+           "import dump kept --region-log 3": "IMAGE", "assemble text kept": "IMAGE", "map base --svg kept": "FILE",
+           "generate kept --words 64 --live 50 --region-log 3 --seed 1": "IMAGE"}
+
+
+def prepare_writing(tried: Tried) -> None:
+    tried.write("dump", DUMP)
+    tried.write("text", subprocess.run([tried.program, "text", "base"], cwd=tried.folder, capture_output=True).stdout)
+    subprocess.run(["cc", "-shared", "-fPIC", "-O2", "-o", tried.folder / "stranger.so", PRELOAD / "stranger.c"],
+                   check=True)
+
+
+def failing(tried: Tried, call: str, words: str, error: int = errno.EIO) -> str:
+    """What the program says at length on words, where this call of the system fails each time with this error."""
+    run = ["sh", "-c", 'exec "$@" 3>/dev/null', "sh", "env", f"FAILS={call}", f"ERROR={error}",
+           f"LD_PRELOAD={tried.folder / 'stranger.so'}"]
     done = subprocess.run([*run, tried.program, *words.split(), "--verbose"], cwd=tried.folder, capture_output=True, text=True)
     return done.stderr
 
@@ -283,16 +298,10 @@ def try_calls(tried: Tried) -> None:
     failed = "other, error 5 of the system"
     calls = {"sync": ("sync", failed), "mode": ("access", failed), "rename": ("rename", failed), "empty": ("empty", failed),
              "none": ("write", "no byte was taken")}
-    commands = {"collect base kept --workers 1": "OUT", "upgrade base kept": "OUT", "record base kept made --workers 1": "OUT",
-                "import dump kept --region-log 3": "IMAGE", "assemble text kept": "IMAGE", "map base --svg kept": "FILE",
-                "generate kept --words 64 --live 50 --region-log 3 --seed 1": "IMAGE"}
-    tried.write("dump", DUMP)
-    tried.write("text", subprocess.run([tried.program, "text", "base"], cwd=tried.folder, capture_output=True).stdout)
-    subprocess.run(["cc", "-shared", "-fPIC", "-O2", "-o", tried.folder / "stranger.so", PRELOAD / "stranger.c"],
-                   check=True)
+    prepare_writing(tried)
     before = {path.name for path in tried.folder.iterdir()} | {"made", "kept"}
     rows = [(words + (" --atomic" if call != "empty" else ""), call, io(f"{role} kept", *told))
-            for words, role in commands.items() for call, told in calls.items()]
+            for words, role in WRITING.items() for call, told in calls.items()]
     rows += [("collect base kept --workers 1", "stat", io("IMAGE base", "stat", failed)),
              ("generate kept --words 64 --live 50 --region-log 3 --seed 1", "stat", io("IMAGE kept", "stat", failed)),
              ("generate kept --words 64 --live 50 --region-log 3 --seed 1 --atomic", "stat", io("IMAGE kept", "stat", failed))]
@@ -303,6 +312,18 @@ def try_calls(tried: Tried) -> None:
         left = {path.name for path in tried.folder.iterdir()} - before
         if said != answer.err or left or (words.endswith("--atomic") and tried.read("kept") != b"what stood there"):
             tried.is_wrong(f"pcompact {words}, {call} fails: {said!r}; {left} is left, or what stood there is gone")
+
+
+def try_no_space(tried: Tried) -> None:
+    """A device that is full, and a user who has no more of it."""
+    prepare_writing(tried)
+    for words, role in WRITING.items():
+        for option, call in (("", "write"), (" --atomic", "write"), (" --atomic", "sync")):
+            for error in (errno.ENOSPC, errno.EDQUOT):
+                tried.count += 1
+                said = failing(tried, call, words + option, error)
+                if said != io(f"{role} kept", call, "no space").err:
+                    tried.is_wrong(f"pcompact {words}{option}, {call} fails by {errno.errorcode[error]}: {said!r}")
 
 
 def try_refused_memory(tried: Tried, words: str) -> None:
@@ -334,7 +355,7 @@ def main() -> int:
         tried.write("base", BASE)
         tried.write("compacted", COMPACTED)
         for group in (try_lengths, try_images, try_hints, try_missing, try_not_permitted, try_full, try_workers, try_schedules,
-                      try_verdicts, try_refused_files, try_dumps, try_generated, try_calls):
+                      try_verdicts, try_refused_files, try_dumps, try_generated, try_calls, try_no_space):
             group(tried)
         tried.write("schedule", "schedule 1 1\n0 look 1 open2\n")
         for words in ("replay base schedule", "summary nothing", "verify base base", "import cut out"):

@@ -2,7 +2,8 @@
 # Runs the built program on some command lines with each of its calls on files failing in turn, as
 # opens, reads and writes. It must answer status 1 and `pcompact: fault 13 input or output` alone, with
 # a beginning of the right bytes in each file that the command makes; or all must be right, where it can do
-# without that call, as with the one that tells whether an image's file is a regular one. Where what fails is a write to
+# without that call, as with the one that tells whether an image's file is a regular one. Where it can't be told whether a file
+# is standard output, what is printed goes to standard error. Where what fails is a write to
 # standard error, the status must stay, and a beginning of the right text stand there. And with each
 # read and write moving one byte, all must be right.
 #
@@ -70,6 +71,12 @@ is_cut_short() {
     [ -s "$room/right.err" ] && [ "$status" = "$right" ] && [ ! -s "$room/out" ] && begins "$room/err" "$room/right.err"
 }
 
+# Whether all is right, but what is printed stands on standard error, as some file was written.
+is_on_errors() {
+    [ "$status" = "$right" ] && [ ! -s "$room/out" ] && [ -n "$(ls "$room/made")" ] &&
+        cat "$room/right.err" "$room/right.out" | cmp -s - "$room/err" && diff -r "$room/made" "$room/right" >/dev/null
+}
+
 say_wrong() {
     wrong=1
     failed=$((failed + 1))
@@ -82,7 +89,7 @@ each() {
     keep_right "$@"
     for at in $(seq "$count"); do
         failing "$at" "$@"
-        is_fault || is_cut_short || is_right || say_wrong "call $at of $count failed"
+        is_fault || is_cut_short || is_right || is_on_errors || say_wrong "call $at of $count failed"
     done
     failing 0 "$@"
     is_right || say_wrong 'run again'

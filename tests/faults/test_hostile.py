@@ -3,13 +3,13 @@
 
 A stranger who may write in OUT's folder swaps the new file for a link; OUT, SCHEDULE or FILE is standard output, as a file, a
 pipe and a file at whose end is written; the size of files is limited; names break lines; OUT and SCHEDULE have the names of
-new files; another process writes OUT meanwhile; a dump changes between its two readings; two files of two devices have one
-number. What the program does with new files is told by a library that is loaded before the C library's. Ends with status 1 where
-something is another way.
+new files; another file takes the name of what a killed call left; files can't be locked; another process writes OUT meanwhile;
+a dump changes between its two readings; two files of two devices have one number. What the program does with new files is told
+by a library that is loaded before the C library's. Ends with status 1 where something is another way.
 
 usage: tests/faults/test_hostile.py [PROGRAM]      (needs a C compiler; a part needs root and unshare)
 """
-import contextlib
+import errno
 import os
 import pathlib
 import resource
@@ -31,6 +31,8 @@ from tests.support.program import PRELOAD, Answer, Tried, built, fault, launcher
 FAULT_13 = fault("13 input or output")
 OLD = b"what stood there before" * 40
 OWNER, GROUP = 12, 34
+# Characters beyond ASCII that move the cursor, break a line, or turn the direction of a text or hide in it.
+UNPRINTABLE = "\u0080\u0085\u009b\u00ad\u200b\u2028\u202e\u2066\ufeff"
 COLLECT = "collect heap out --workers 1 --atomic"
 RECORD = "record heap out schedule --workers 1 --atomic"
 MADE = {
@@ -218,6 +220,10 @@ def try_names(it: Hostile) -> None:
                         (["collect", "heap", "out", "--workers", name], f"error: invalid value '{shown}' for '--workers"),
                         (["\x1b]0;owned\x07"], "error: unrecognized subcommand '\\x1b]0;owned\\x07'\n")):
         it.tried.run(words, usage(told))
+    for character in UNPRINTABLE:
+        shown = f"a\\u{{{ord(character):x}}}31m"
+        it.tried.run([f"a{character}31m"], usage(f"error: unrecognized subcommand '{shown}'\n"))
+        it.tried.run(["summary", "heap", f"a{character}31m"], usage(f"error: unexpected argument '{shown}' found\n"))
     it.tried.run(["no\u00e9 'word' \"at\" all"], usage("error: unrecognized subcommand 'no\u00e9 'word' \"at\" all'\n"))
 
 
@@ -242,10 +248,30 @@ def try_own_names(it: Hostile) -> None:
                   ["collect", "heap", "new/", "--workers", "1"], ["generate", "", *"--words 64 --live 50 --region-log 3 --seed 1".split()]):
         for atomic in ([], ["--atomic"]):
             it.tried.run([*words, *atomic], FAULT_13)
-            with contextlib.suppress(FileNotFoundError):
-                # Without --atomic OUT was found before SCHEDULE was, and is left empty.
-                (it.here / "out").unlink() if not atomic else None
             it.holds(f"pcompact {words} {atomic}", heap=BASE, dump=DUMP)
+
+
+def try_renewed(it: Hostile) -> None:
+    """What a killed call left goes, but not another file that has taken its name meanwhile."""
+    left = ".pcompact-0.tmp"
+    for words, made in ((COLLECT, {"out": COMPACTED}), ("upgrade heap out --atomic", {"out": upgraded(BASE)})):
+        it.lay(heap=BASE, **{left: b"left"})
+        done, told = it.watch(words, RENEWED=left)
+        it.expect(done.returncode == 0 and "not renewed" not in told, f"pcompact {words} beside a renewed file: {done}")
+        it.holds(f"pcompact {words} beside a renewed file", heap=BASE, **made, **{left: b""})
+
+
+def try_no_locks(it: Hostile) -> None:
+    """Where files can't be locked all is made as elsewhere, and what a killed call left stays."""
+    for words, made in ((COLLECT, {"out": COMPACTED}), (RECORD, {"out": COMPACTED, "schedule": ONE_WORKER.encode()}),
+                        ("import dump out --region-log 3 --atomic", {"out": make(DUMP, 3).image})):
+        for error in (errno.EOPNOTSUPP, errno.ENOSYS):
+            laid = {"heap": BASE, "dump": DUMP, ".pcompact-0.tmp": b"left"}
+            for old in ({}, dict.fromkeys(made, OLD)):
+                it.lay(**laid, **old)
+                done, _ = it.watch(words, FAILS="lock", ERROR=str(error))
+                it.expect((done.returncode, done.stderr) == (0, ""), f"pcompact {words} where files can't be locked: {done}")
+                it.holds(f"pcompact {words} where files can't be locked", **laid, **made)
 
 
 def gapped(size: int) -> bytes:
@@ -339,7 +365,7 @@ def main() -> int:
         subprocess.run(["cc", "-shared", "-fPIC", "-O2", "-o", library, PRELOAD / "stranger.c"], check=True)
         it = Hostile(tried, library)
         for group in (try_steps, try_swapped, try_private, try_standard_output, try_limited, try_names, try_own_names,
-                      try_meanwhile, try_changed_dumps, try_devices):
+                      try_renewed, try_no_locks, try_meanwhile, try_changed_dumps, try_devices):
             group(it)
         skipped = f", {it.skipped} skipped" if it.skipped else ""
         print(f"{max(tried.count - tried.wrong, 0)} passed, {tried.wrong} failed{skipped}")

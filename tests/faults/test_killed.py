@@ -7,7 +7,7 @@ docs/COMMANDS.md. Before that, in turn: each signal, after which the next call r
 meanwhile; files with such names that the command doesn't own; folders in which others may rename. Ends with status 1 if
 something else is left.
 
-usage: tests/faults/test_killed.py [SEED [COUNT]] [--program PROGRAM]      (a part needs root)
+usage: tests/faults/test_killed.py [PROGRAM [SEED [COUNT]]]      (a part needs root)
 """
 import argparse
 import array
@@ -280,9 +280,9 @@ class Killing:
 def main() -> int:
     parser = argparse.ArgumentParser(description=__doc__.partition("\nusage:")[0],
                                      formatter_class=argparse.RawDescriptionHelpFormatter)
+    parser.add_argument("program", nargs="?", type=pathlib.Path, help="the program (the one that fits the sources)")
     parser.add_argument("seed", nargs="?", default="1", help="any text (1)")
     parser.add_argument("count", nargs="?", type=int, default=200, help="how many runs (200)")
-    parser.add_argument("--program", type=pathlib.Path, help="the program (the one that fits the sources)")
     asked = parser.parse_args()
     chance = random.Random(asked.seed)
     with tempfile.TemporaryDirectory() as folder:

@@ -20,7 +20,7 @@ from tests.support.program import PRELOAD, built
 
 # Of each heap the most bytes that its collection may hold at a time, a few hundredths above what it holds.
 HEAPS = {
-    Heap("small_regions", FILLS, 1, 3, 1 << 17, objects=130_000, at=1): 7_650_000,
+    Heap("small_regions", FILLS, 1, 3, 1 << 17, objects=130_000, at=1): 5_050_000,
     Heap("large_regions", FILLS, 1, 9, 1 << 21, objects=1_900_000, at=1): 41_350_000,
 }
 

@@ -121,16 +121,19 @@ def fail_each_call(program: str, room: pathlib.Path, what: str) -> None:
         right = called.answer(words, FAILED=0)
         count = called.calls()
         expect(right[0] == 0 and count > 5, f"{words}, {what}: {right[:3]}, {count} calls")
-        faults = 0
+        faults = elsewhere = 0
         for number in range(1, count + 1):
             found = called.answer(words, FAILED=number)
             is_fault = found[:3] == (1, b"", FAULT_13) and all(map(is_beginning, found[3], right[3]))
             # A schedule is written in pieces of which not all need be there, and by several workers in any order.
             is_fault = is_fault or "record" in words and found[:3] == (1, b"", FAULT_13) and is_beginning(found[3][0], right[3][0])
-            is_right = found[:3] == right[:3] and found[3][0] == right[3][0]
+            # The line is on standard error where it can't be told whether a file is standard output.
+            is_right = found[:3] in (right[:3], (0, b"", right[1])) and found[3][0] == right[3][0]
             faults += is_fault
+            elsewhere += found[:3] == (0, b"", right[1])
             expect(is_fault or is_right, f"{words}, {what}, call {number} of {count} fails: {found[:3]}")
         expect(faults > 3, f"{words}, {what}: {faults} calls are missed where they fail")
+        expect(elsewhere <= 2 * len(right[3]), f"{words}, {what}: {elsewhere} calls that fail send the line to standard error")
 
 
 def cut_at_each_call(program: str, room: pathlib.Path, what: str) -> None:

@@ -1,5 +1,6 @@
 #!/usr/bin/env python3
-"""How many threads a collection starts in each of its phases, by the number of workers; and that those of `record` begin together.
+"""How many threads a collection starts in each of its phases, by the number of workers; that those of `record` begin together, and
+don't wait long for threads that can't be started; and that none gives up where others are in its way.
 
 A phase is shared by as many threads as there are workers, unless the heap is too small for so many to be worth it: the
 first thread starts the others, and in most phases one more that does nothing. Over each heap below just one phase has
@@ -18,6 +19,7 @@ import re
 import subprocess
 import sys
 import tempfile
+import time
 
 # Finds the package `tests` from any folder, and writes nothing beside its modules.
 sys.dont_write_bytecode = True
@@ -26,6 +28,8 @@ from tests.models.image import FRONT, header
 from tests.support.program import PRELOAD, built
 
 WORKERS = (1, 2, 3, 4, 64)
+# How long `record` may take where threads can't be started: it waits for a tenth of a second, and other programs may be at work.
+MOST_SECONDS = 3
 
 
 @dataclasses.dataclass(frozen=True)
@@ -93,6 +97,10 @@ HEAPS = (
 # Its regions are ready at once, and so few that one thread fills all of them while another is started.
 READY = Heap("ready", Phase("none", 1), 1, 3, 512, objects=64, size=8)
 RECORDINGS = 20
+
+# In a heap of so many regions of eight words workers often open one at once, and some then have to try again.
+CONTENDED = "--words 131072 --live 97 --region-log 3 --seed 3"
+COLLECTIONS = 5
 
 
 @dataclasses.dataclass(frozen=True)
@@ -196,6 +204,35 @@ class Counted:
             self.wrong += 1
             print(f"in {shared} of {RECORDINGS} recordings by 4 workers several have a share")
 
+    def try_refused(self) -> None:
+        """Where threads can't be started, `record` doesn't wait long for them, and its schedule is a whole one."""
+        (self.room / READY.name).write_bytes(READY.text())
+        for threads in range(3):
+            self.count += 1
+            words = f"record {READY.name} out schedule --workers 3".split()
+            begun = time.monotonic()
+            done = subprocess.run(["sh", "-c", 'exec "$@" 3>/dev/null', "sh", self.program, *words], cwd=self.room,
+                                  env={**os.environ, "LD_PRELOAD": str(self.notes), "THREADS": str(threads)},
+                                  capture_output=True, text=True)
+            taken = time.monotonic() - begun
+            replayed = subprocess.run([self.program, "replay", READY.name, "schedule"], cwd=self.room, capture_output=True, text=True)
+            if done.returncode or taken > MOST_SECONDS or not replayed.stdout.endswith("finished\n"):
+                self.wrong += 1
+                print(f"record with {threads} threads: {taken:.1f} s, {done.stderr!r}, replay says {replayed.stdout!r}")
+
+    def try_contended(self) -> None:
+        """However often workers are in each other's way, each collection ends well, and alike."""
+        for words in (f"generate contended {CONTENDED}", "collect contended right --workers 1"):
+            subprocess.run([self.program, *words.split()], check=True, cwd=self.room, stdout=subprocess.DEVNULL)
+        for words in ("collect contended out --workers 2", "collect contended out --workers 4",
+                      "record contended out schedule --workers 4"):
+            for _ in range(COLLECTIONS):
+                self.count += 1
+                done = subprocess.run([self.program, *words.split()], cwd=self.room, capture_output=True, text=True)
+                if done.returncode or (self.room / "out").read_bytes() != (self.room / "right").read_bytes():
+                    self.wrong += 1
+                    print(f"{words}: {done.stderr!r}, or OUT has other bytes than by one worker")
+
 
 def main() -> int:
     program = (pathlib.Path(sys.argv[1]) if len(sys.argv) > 1 else built()).resolve()
@@ -204,6 +241,8 @@ def main() -> int:
         for heap in HEAPS:
             counted.try_heap(heap)
         counted.try_together()
+        counted.try_refused()
+        counted.try_contended()
     print(f"{counted.count - counted.wrong} passed, {counted.wrong} failed")
     return 1 if counted.wrong else 0
 

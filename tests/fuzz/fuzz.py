@@ -18,7 +18,7 @@ A case depends on the seed and its number alone, but for what `record` writes wi
 processes. Ends with status 1 where something differs, a signal ends the program, or a call takes more than 10 seconds; all
 files of such a case are then kept, with what was told.
 
-usage: tests/fuzz/fuzz.py [SEED [COUNT]] [--case NUMBER] [--program PROGRAM] [--seconds SECONDS] [--keep FOLDER] [--processes N]
+usage: tests/fuzz/fuzz.py [PROGRAM [SEED [COUNT]]] [--case NUMBER] [--seconds SECONDS] [--keep FOLDER] [--processes N]
 """
 import argparse
 import collections
@@ -125,10 +125,10 @@ def try_share(asked: argparse.Namespace, until: float, numbers: range) -> Share:
 def asked_for() -> argparse.Namespace:
     parser = argparse.ArgumentParser(description=__doc__.partition("\nusage:")[0],
                                      formatter_class=argparse.RawDescriptionHelpFormatter)
+    parser.add_argument("program", nargs="?", type=pathlib.Path, help="the program (the one that fits the sources)")
     parser.add_argument("seed", nargs="?", default="1", help="any text (1)")
     parser.add_argument("count", nargs="?", type=int, help="how many cases (as many as time allows)")
     parser.add_argument("--case", type=int, help="only the case of this number, from 1; its files are kept")
-    parser.add_argument("--program", type=pathlib.Path, help="the program (the one that fits the sources)")
     parser.add_argument("--seconds", type=float, help="no case begins later than this (30, or any time for a count of cases)")
     parser.add_argument("--keep", type=pathlib.Path, default=pathlib.Path(tempfile.gettempdir()),
                         help="where the files of cases that differ are kept (the temporary files)")

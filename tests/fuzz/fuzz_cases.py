@@ -23,11 +23,6 @@ def atomic_or_not(chance: random.Random) -> str:
     return chance.choice(["", "", " --atomic"])
 
 
-def left(flag: str, *names: str) -> dict[str, bytes | None]:
-    """What a refusal leaves of files to write that weren't there."""
-    return {name: None if flag else b"" for name in names}
-
-
 def try_refused(tried: Tried, said: str, chance: random.Random) -> None:
     """An image that is none, under `summary` and other commands."""
     tried.run("summary image", fault(said))
@@ -35,9 +30,9 @@ def try_refused(tried: Tried, said: str, chance: random.Random) -> None:
     # The image is read before the schedule, and before workers are counted.
     tried.write("schedule", chance.choice(["", "schedule 1 1\n", "schedule 1 1\n0 claim 0 ?"]))
     commands = [("order image", {}), ("text image", {}), ("map image --after", {}), (f"map image --svg drawn{flag}", {"drawn": None}), ("replay image schedule", {}), ("timeline image schedule", {}), (f"timeline image schedule --html drawn{flag}", {"drawn": None}), ("verify image base", {}), ("verify base image", {}),
-                (f"collect image out --workers {workers}{flag}", left(flag, "out")),
-                (f"record image out recorded --workers {workers}{flag}", left(flag, "out", "recorded")),
-                (f"upgrade image out{flag}", left(flag, "out"))]
+                (f"collect image out --workers {workers}{flag}", {"out": None}),
+                (f"record image out recorded --workers {workers}{flag}", {"out": None, "recorded": None}),
+                (f"upgrade image out{flag}", {"out": None})]
     for words, made in chance.sample(commands, 2):
         tried.run(words, fault(said, made))
 
@@ -60,9 +55,9 @@ def try_collected(tried: Tried, collection: Collection, chance: random.Random) -
               dataclasses.replace(collected, made=collected.made | {"schedule": alone.encode()}))
     if chance.randrange(8) == 0:
         workers, flag = chance.choice([0, MAX_WORKERS + 1, 2 ** 32 - 1]), atomic_or_not(chance)
-        tried.run(f"collect image out --workers {workers}{flag}", fault("12 workers", left(flag, "out")))
+        tried.run(f"collect image out --workers {workers}{flag}", fault("12 workers", {"out": None}))
         tried.run(f"record image out schedule --workers {workers}{flag}",
-                  fault("12 workers", left(flag, "out", "schedule")))
+                  fault("12 workers", {"out": None, "schedule": None}))
     if image.version != 1 and allows(1, image.region_log, len(image.words)):
         try_twin(tried, as_version_1(image), alone)
     try_upgraded(tried, image)
@@ -117,7 +112,7 @@ def try_version_3(tried: Tried, image: Image) -> None:
     tried.run("upgrade image third --to 3", Answer(0, roots, made={"third": made}))
     tried.run("upgrade third third --to 3 --atomic", Answer(0, roots))
     tried.run("upgrade third fourth --to 3", Answer(0, roots, made={"fourth": made}))
-    tried.run("upgrade third out --to 2", Answer(1, err="pcompact: version 3 can't be upgraded to version 2\n", made={"out": b""}))
+    tried.run("upgrade third out --to 2", Answer(1, err="pcompact: version 3 can't be upgraded to version 2\n", made={"out": None}))
     collection = Collection(new)
     tried.run("collect third out --workers 2", Answer(0, collection.figures(), made={"out": encode(collection.compaction())}))
 

@@ -186,6 +186,29 @@ fn regions_of_a_pool_copy_given_words(rt: HostRuntime) -> Result<(), Fail> {
     Ok(())
 }
 
+/// The bytes of the words 0x0807060504030201, 9 and 2^64 - 1, the lowest byte first.
+const BYTES: [u8; 24] = [
+    1, 2, 3, 4, 5, 6, 7, 8, 9, 0, 0, 0, 0, 0, 0, 0, 255, 255, 255, 255, 255, 255, 255, 255,
+];
+
+const WORDS: [u64; 3] = [0x0807_0605_0403_0201, 9, u64::MAX];
+
+#[test]
+fn regions_take_the_words_of_bytes(rt: HostRuntime) -> Result<(), Fail> {
+    let own = Region::of_bytes(rt.alloc(), &BYTES, 3)?;
+    equal_words(&rt, own.words(), &WORDS);
+    Ok(())
+}
+
+#[test]
+fn regions_of_a_pool_take_the_words_of_bytes(rt: HostRuntime) -> Result<(), Fail> {
+    let pool = RegionPool::new(rt.alloc(), 2, 3)?;
+    let out = pool.take_with_bytes(1, &BYTES);
+    equal(&rt, ends(&out), Some((WORDS[0], WORDS[2])));
+    holds(&rt, pool.take_with_bytes(1, &BYTES).is_none());
+    Ok(())
+}
+
 #[test]
 fn a_region_outlives_its_pool(rt: HostRuntime) -> Result<(), Fail> {
     let pool = RegionPool::new(rt.alloc(), 2, MAX_WORDS)?;

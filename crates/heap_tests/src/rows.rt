@@ -3,7 +3,7 @@ ghost use Rattle.std.specs.Prelude.{◌≡◌, ◌+◌, ◌<◌};
 
 use crate::checks::equal;
 use std::thread::Threads;
-use thread_row::{behind_an_empty_thread, for_each_mut};
+use thread_row::{behind_an_empty_thread, for_each_mut, for_each_mut_alone};
 
 /// A list of ones after at most `most` threads have added to each element its index.
 fn numbered(threads: &(impl Threads + Sync), most: usize) -> [usize; 10]
@@ -27,6 +27,19 @@ fn each_element_is_changed_once(rt: HostRuntime) {
     for threads in [1, 2, 3, 4, 64] {
         equal(&rt, numbered(&rt, threads), [1, 2, 3, 4, 5, 6, 7, 8, 9, 10]);
     }
+}
+
+#[test]
+fn each_element_is_changed_by_the_caller_alone(rt: HostRuntime) {
+    let mut places = [1usize; 3];
+    for_each_mut_alone(
+        &mut places,
+        &|i: usize, it: &mut usize|
+            requires { (i < 3) × (it.old ≡ 1) }
+            ensures { it.new ≡ 1 + i }
+        { *it = 1 + i },
+    );
+    equal(&rt, places, [1, 2, 3]);
 }
 
 #[test]

@@ -1,7 +1,7 @@
 //! Tests of new addresses.
 ghost use Rattle.std.specs.Prelude.{◌≡◌};
 
-use crate::checks::{equal, holds_at};
+use crate::checks::{equal, holds, holds_at};
 use crate::known_heaps::{BASE, BASE_SIZES, Sizes, image_of};
 use heap_image::{Fault, Image};
 use heap_samples::Object;
@@ -114,5 +114,42 @@ fn a_survey_has_marks_and_plan(rt: HostRuntime) -> Result<(), Fail> {
     let image = image_of(&rt, rt.alloc(), BASE_SIZES, &BASE)?;
     let found = survey_findings(&rt, rt.alloc(), &image)?;
     equal(&rt, found, (19, Some(12)));
+    Ok(())
+}
+
+/// Where the first live word from an address on goes.
+fn place_from(survey: &Survey, from: u64) -> Option<u64> {
+    let word = survey.marks().next_live(from)?;
+    Some(survey.plan().new_place(word))
+}
+
+/// Where the first live words from addresses 6, 13 and 30 of the base heap on go: the second word of an object, the last of
+/// one, and none.
+fn places_found<T: Threads + Sync>(
+    threads: &T,
+    alloc: Global,
+    image: &Image,
+) -> Result<[Option<u64>; 3], Fault> {
+    let survey = Survey::of(alloc, image, threads)?;
+    Ok([
+        place_from(&survey, 6),
+        place_from(&survey, 13),
+        place_from(&survey, 30),
+    ])
+}
+
+#[test]
+fn interior_words_slide_with_their_objects(rt: HostRuntime) -> Result<(), Fail> {
+    let image = image_of(&rt, rt.alloc(), BASE_SIZES, &BASE)?;
+    let found = places_found(&rt, rt.alloc(), &image)?;
+    equal(&rt, found, [Some(4), Some(8), None]);
+    Ok(())
+}
+
+#[test]
+fn an_object_has_its_size_and_references(rt: HostRuntime) -> Result<(), Fail> {
+    let image = image_of(&rt, rt.alloc(), BASE_SIZES, &BASE)?;
+    holds(&rt, image.len() == 32);
+    equal(&rt, (image.size_at(20), image.references_at(20)), (10, 0));
     Ok(())
 }
