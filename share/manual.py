@@ -5,7 +5,7 @@ import textwrap
 from helps import Help, Helps, Option
 
 # When the texts below were last changed.
-DATE = "2026-11-26"
+DATE = "2026-11-29"
 WIDTH = 78
 ESCAPES = {"\\": r"\e", "^": r"\(ha", "~": r"\(ti", "`": r"\(ga"}
 
