@@ -1,8 +1,9 @@
 /* The C interface of pcompact, a sliding full collection whose program is proved.
  *
  * Link libpcompact.a. It takes memory by malloc, unless the program defines the three functions of heap.c: any allocator
- * that aligns to 16 bytes and that several threads may call can stand in its place. Each call is proved but pcompact_cut and
- * those in place: these are a few lines of C, here and in in_place.c, around calls that are proved, and are only tested.
+ * that aligns to 16 bytes and that several threads may call can stand in its place. Each call is proved but pcompact_cut, those
+ * in place, and those of several threads over lent words: these are a few lines of C, here, in in_place.c and in lent.c, around
+ * calls that are proved, and are only tested.
  *
  * No call starts a thread or waits, and none keeps state but behind the handles of a collection by several threads, so
  * several threads may be in calls at once, each with memory and handles of its own. No call may be made from a signal
@@ -26,7 +27,7 @@ typedef struct pcompact_fault {
 } pcompact_fault;
 
 /* The version of this header: 1000000 * major + 1000 * minor + patch. */
-#define PCOMPACT_VERSION 2000
+#define PCOMPACT_VERSION 3000
 
 /* The version of the library. */
 uint32_t pcompact_version(void);
@@ -53,7 +54,8 @@ typedef struct pcompact_answer {
  * and `answer` aren't null, and nobody writes there meanwhile. `answer` need not be filled before. */
 uint32_t pcompact_summary_of_image(const uint8_t *bytes, size_t len, pcompact_answer *answer);
 
-/* What the words of a heap don't say. Its regions divide the words: they are at most 16384, with roots 1048576. */
+/* What the words of a heap don't say. Its regions divide the words. There are at most 16384 regions and 4194304 words, with
+ * roots 1048576 and 68719476736: else the fault is 4. */
 typedef struct pcompact_settings {
     uint32_t region_log; /* the logarithm, to base 2, of the number of words of a region: 3 to 16, with roots to 20 */
     uint64_t allowance;  /* the largest number of dead words that the dense prefix may keep */
@@ -146,8 +148,9 @@ pcompact_fault pcompact_begin_rooted(const uint64_t *words, size_t word_count, c
 
 /* Like pcompact_begin, for a heap whose regions the host lends, as pcompact_collect_lent has them: the workers compact them where
  * they lie, without a copy. From the begin to the end the words are the library's, none is held, and nobody else uses them or
- * writes their fields. Only pcompact_end_lent ends such a collection. Faults: those of pcompact_begin, 4 if some words aren't
- * held or are more or fewer than a region has, or 15 as of pcompact_collect. After any fault but 15 all is as it was. */
+ * writes their fields. Only pcompact_end_lent, which is handed the words where they were then, ends such a collection. Faults:
+ * those of pcompact_begin, 4 if some words aren't held or are more or fewer than a region has, or 15 as of pcompact_collect.
+ * After any fault but 15 all is as it was. */
 pcompact_fault pcompact_begin_lent(pcompact_words *words, size_t region_count, const uint64_t *live, size_t live_count,
                                    pcompact_settings settings, pcompact_handle *handles, size_t worker_count);
 
@@ -193,26 +196,27 @@ uint32_t pcompact_work(pcompact_handle *handle, uint64_t turns);
  * PCOMPACT_SETTLED, PCOMPACT_STOPPED, PCOMPACT_FAILED or PCOMPACT_NOT_HELD. */
 uint32_t pcompact_work_all(pcompact_handle *handle);
 
-/* Ends a collection by the handles of one begin, in any order, once no other call uses them: fills what is left to fill, and
- * writes the words of the compaction and the new live addresses or roots. No handle is held afterwards. Returns the number of
- * the fault in `answer`: 0, 12 if these aren't all handles of one begin, 4 if the words or the list aren't as many as there,
- * 11 if memory runs out, or 15 as of pcompact_collect. After a fault words and list are as they were, and the collection is
- * lost. Collections that are begun and not ended keep their memory. No pointer is null, also with a count of 0, nothing
- * overlaps, and nobody reads or writes there meanwhile. `answer` need not be filled before. */
+/* Ends a collection by the handles of one pcompact_begin or pcompact_begin_rooted, in any order, once no other call uses them:
+ * fills what is left to fill, and writes the words of the compaction and the new live addresses or roots. Returns the number of
+ * the fault in `answer`: 0, 12 if these aren't all handles of one such begin, 4 if the words or the list aren't as many as
+ * there, 11 if memory runs out, or 15 as of pcompact_collect. After a fault words and list are as they were. After fault 12 the
+ * handles are too, and collections go on; otherwise no handle is held, and the collection is over. Collections that are begun and
+ * not ended keep their memory. No pointer is null, also with a count of 0, nothing overlaps, and nobody reads or writes there
+ * meanwhile. `answer` need not be filled before. */
 uint32_t pcompact_end(pcompact_handle *handles, size_t worker_count, uint64_t *words, size_t word_count, uint64_t *list,
                       size_t list_count, pcompact_answer *answer);
 
-/* The same for a collection that pcompact_begin_lent or pcompact_begin_lent_rooted began, whose words these are: afterwards each
- * holds its region's words of the compaction, at the same place. Fault 4 comes also if some of the words are held. After faults
- * 4, 11 and 12 all is as it was, handles too, and the collection goes on. After fault 15 no handle is held, nothing is promised
- * of words and list, and some words aren't held. */
+/* The same for a collection that pcompact_begin_lent or pcompact_begin_lent_rooted began with these words: afterwards each holds
+ * its region's words of the compaction, at the same place. Fault 12 comes also for other words, and fault 4 if some are held.
+ * After faults 4, 11 and 12 all is as it was, handles too, and the collection goes on. After fault 15 no handle is held, nothing
+ * is promised of words and list, and some words aren't held. */
 uint32_t pcompact_end_lent(pcompact_handle *handles, size_t worker_count, pcompact_words *words, size_t region_count,
                            uint64_t *list, size_t list_count, pcompact_answer *answer);
 
 /* The same for a collection that pcompact_begin_in_place or pcompact_begin_in_place_rooted began with these regions: afterwards
- * its words are those of the compaction, and there are no regions. Fault 12 comes also if there are none before. After faults 4,
- * 11 and 12 all is as it was, handles and regions too, and the collection goes on. After fault 15 no handle is held, there are no
- * regions, and nothing is promised of words and list. */
+ * its words are those of the compaction, and there are no regions. Fault 12 comes also for other regions or none. After faults
+ * 4, 11 and 12 all is as it was, handles and regions too, and the collection goes on. After fault 15 no handle is held, there are
+ * no regions, and nothing is promised of words and list. */
 uint32_t pcompact_end_in_place(pcompact_handle *handles, size_t worker_count, pcompact_regions *regions, uint64_t *list,
                                size_t list_count, pcompact_answer *answer);
 
