@@ -63,7 +63,7 @@ file_sum() {
 }
 
 # Whether a folder's program was built from sources of this checksum, is the one that its stamp names, and starts here.
-# Else `why` is the reason. Status 2 where that can't be told.
+# Else `why` is the reason. Status 2 where that can't be found out.
 fits() {
     why="$1/pcompact wasn't built from these sources"
     [ "$2" = "$(stamped "$1" sources)" ] || return 1
@@ -86,7 +86,7 @@ take_sum() {
 }
 
 # Finds the program that fits the sources: out/pcompact if it was proved here, or dist. Sets `folder`, or else `why`. Status 2
-# where it can't be told; where none fits, what the script pcompact has kept goes.
+# where it can't be found out; where none fits, what the script pcompact has kept goes.
 find_program() {
     take_sum || return
     for folder in out/pcompact dist; do

@@ -166,7 +166,7 @@ class Work:
             check.give_way(self.way[check.crate.name] < NEARLY * self.way[left[0]])
 
     def jobs_of(self, name: str, others: int) -> int:
-        """How many jobs a check has while so many other crates are ready or at work. Each job loads the libraries below for
+        """How many jobs a check has while this number of other crates is ready or at work. Each job loads the libraries below for
         itself, so a crate that can wait has one."""
         if others <= 1:
             return self.jobs

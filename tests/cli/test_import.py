@@ -209,7 +209,7 @@ def try_long_names(tried: Tried) -> None:
     most = dump_model.MOST_SHOWN
     names = [b"a" * (most - 1), b"b" * most, b"c" * most + b"1", b"c" * most + b"2", b"\\" * (most + 1), b"/" * 65_536,
              b"[L" + b"x" * 200_000, b"java/lang/Class" + b"/" * most, b"\n" * most + b"live\n"]
-    # The last row is worst: the least objects, with all that is shown of a name as `\xNN`.
+    # The last row is the worst: the smallest objects, and each byte of the name printed as `\xNN`.
     for id_size, part, count in ((4, names, 3), (8, names, 3), (8, names[-3:-2], 2000), (4, [b"\0" * 501], 2000)):
         data = named_dump(id_size, part, count)
         tried.write("dump", data)

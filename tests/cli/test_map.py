@@ -94,7 +94,7 @@ def try_rows(tried: Tried) -> None:
     for width in (2, 3):
         tried.run(f"map image --letters --width {width}", Answer(0, (
             f"words 32 live 0 dead 32 prefix 0 top 0 filled 0\nbefore |{'_' * width}|\n       |{'-' * width}|\n{legend('-')}")))
-    # Cells of nine words, of which so many live: shades are thirds.
+    # Cells of nine words, by the number that live: shades are thirds.
     lives = {9 * cell: live for cell, live in enumerate((0, 1, 2, 3, 5, 6, 8, 9)) if live}
     words = [999] * 72
     for a, live in lives.items():
@@ -190,7 +190,7 @@ def try_terminal(tried: Tried) -> None:
             tried.is_wrong(f"map on a terminal of {names}: {shown!r}")
 
 
-# Of terminals with so many columns and lines the cells of a row, the rows of a strip, and those with `--after`.
+# By the columns and lines of a terminal: the cells of a row, the rows of a strip, and those with `--after`.
 TERMINALS = (
     (120, 40, 100, 17, 8), (37, 25, 17, 10, 5), (36, 24, 16, 9, 4), (35, 9, 16, 2, 1), (21, 8, 16, 1, 1), (20, 7, 16, 1, 1),
     (3, 6, 16, 1, 1), (1, 1, 16, 1, 1),

@@ -3,7 +3,7 @@
 All else must be as without it: status, standard output and files, also where something goes wrong.
 
 The clock, the system's file of the process, standard error, each call on files and each allocation fail in turn. And a clock
-that goes on by 1000 seconds, at each of its readings in turn, shows which phase is told to take the time before that reading.
+that goes on by 1000 seconds, at each of its readings in turn, shows to which phase the time before that reading counts.
 
 usage: tests/cli/test_stats.py [PROGRAM]      (needs a C compiler)
 """
@@ -139,7 +139,7 @@ def try_prefix(tried: Tried) -> None:
     told = figures_of(done.stderr)
     tried.count += 1
     if prefix * 8 < MIB or (told["live"], told["share"]) != (round((top - prefix) * 8 / MIB, 1), round(100 * top / MIB, 1)):
-        tried.is_wrong(f"of a prefix of {prefix} words and a top of {top} is told {done.stderr!r}")
+        tried.is_wrong(f"of a prefix of {prefix} words and a top of {top} it prints {done.stderr!r}")
 
 
 def try_peak(tried: Tried) -> None:
@@ -153,7 +153,7 @@ def try_peak(tried: Tried) -> None:
     peak, last = (int(re.search(rf"{name}:\s+(\d+) kB", status)[1]) / 1024 for name in ("VmHWM", "VmRSS"))
     tried.count += 1
     if peak < last + 1 or abs(figures_of(done.stderr)["peak memory"] - peak) > 0.5:
-        tried.is_wrong(f"a peak of {peak} MiB, of which {last} are left, is told by {done.stderr!r}")
+        tried.is_wrong(f"a peak of {peak} MiB, of which {last} are left, is printed as {done.stderr!r}")
 
 
 def try_nothing_filled(tried: Tried) -> None:
@@ -262,7 +262,7 @@ def try_failing(tried: Tried, source: str, name: str, fault: str) -> None:
     for words, phases, out, made in COMMANDS:
         for number, done in each(tried, words, list(made), library, name):
             is_fault = done.returncode == 1 and done.stdout == "" and done.stderr == fault
-            # The line is on standard error where it can't be told whether a file is standard output.
+            # The line is on standard error where it can't be found out whether a file is standard output.
             lines = done.stderr if done.stdout else done.stderr.removeprefix(out)
             is_right = (done.returncode == 0 and done.stdout + done.stderr == out + lines
                         and is_part(lines, lines_of(phases, workers_of(words)))

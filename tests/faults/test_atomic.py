@@ -322,7 +322,7 @@ def each(folder: Folder, library: pathlib.Path, name: str, said: str, words: str
         folder.lay(**old)
         done, _ = preloaded(folder, library, words, f"{name}={number}")
         answer = (done.returncode, done.stdout.decode(), done.stderr.decode())
-        # The line is on standard error where it can't be told whether a file is standard output.
+        # The line is on standard error where it can't be found out whether a file is standard output.
         elsewhere += answer == (0, "", line)
         if answer in ((0, line, ""), (0, "", line)):
             kind, files = "the right answer", {"heap": heap, **made}

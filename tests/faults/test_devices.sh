@@ -2,7 +2,7 @@
 # Runs the built program on some command lines with each of its calls on files failing in turn, as
 # opens, reads and writes. It must answer status 1 and `pcompact: fault 13 input or output` alone, with
 # a beginning of the right bytes in each file that the command makes; or all must be right, where it can do
-# without that call, as with the one that tells whether an image's file is a regular one. Where it can't be told whether a file
+# without that call, as with the one that tells whether an image's file is a regular one. Where it can't be found out whether a file
 # is standard output, what is printed goes to standard error. Where what fails is a write to
 # standard error, the status must stay, and a beginning of the right text stand there. And with each
 # read and write moving one byte, all must be right.

@@ -1,6 +1,6 @@
 #!/bin/sh
 # Runs the built program on some command lines, and looks that it frees each block that it takes: on a run
-# in which nothing fails, and with each allocation refused in turn. A block that isn't freed is told with
+# in which nothing fails, and with each allocation refused in turn. A block that isn't freed is printed with
 # its number among those asked for, its bytes and the place in the program. Then it leaves frees out, each
 # in turn, which it must notice.
 #
@@ -23,7 +23,7 @@ run() {
     LD_PRELOAD=$with "$program" "$@" >"$room/out" 2>"$room/err" 3>"$room/blocks"
 }
 
-# Runs the program on the words, and looks whether all that was asked for and given is freed. What fails is told as this.
+# Runs the program on the words, and looks whether all that was asked for and given is freed. What fails is printed by this name.
 frees() {
     what=$1
     shift

@@ -4,8 +4,8 @@
 A stranger who may write in OUT's folder swaps the new file for a link; OUT, SCHEDULE or FILE is standard output, as a file, a
 pipe and a file at whose end is written; the size of files is limited; names break lines; OUT and SCHEDULE have the names of
 new files; another file takes the name of what a killed call left; files can't be locked; another process writes OUT meanwhile;
-a dump changes between its two readings; two files of two devices have one number. What the program does with new files is told
-by a library that is loaded before the C library's. Ends with status 1 where something is another way.
+a dump changes between its two readings; two files of two devices have one number. What the program does with new files is
+reported by a library that is loaded before the C library's. Ends with status 1 where something is another way.
 
 usage: tests/faults/test_hostile.py [PROGRAM]      (needs a C compiler; a part needs root and unshare)
 """

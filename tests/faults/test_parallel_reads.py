@@ -127,7 +127,7 @@ def fail_each_call(program: str, room: pathlib.Path, what: str) -> None:
             is_fault = found[:3] == (1, b"", FAULT_13) and all(map(is_beginning, found[3], right[3]))
             # A schedule is written in pieces of which not all need be there, and by several workers in any order.
             is_fault = is_fault or "record" in words and found[:3] == (1, b"", FAULT_13) and is_beginning(found[3][0], right[3][0])
-            # The line is on standard error where it can't be told whether a file is standard output.
+            # The line is on standard error where it can't be found out whether a file is standard output.
             is_right = found[:3] in (right[:3], (0, b"", right[1])) and found[3][0] == right[3][0]
             faults += is_fault
             elsewhere += found[:3] == (0, b"", right[1])

@@ -2,11 +2,11 @@
 """How many threads a collection starts in each of its phases, by the number of workers; that those of `record` begin together, and
 don't wait long for threads that can't be started; and that none gives up where others are in its way.
 
-A phase is shared by as many threads as there are workers, unless the heap is too small for so many to be worth it: the
+A phase is shared by as many threads as there are workers, unless the heap is too small for all to be worth it: the
 first thread starts the others, and in most phases one more that does nothing. Over each heap below just one phase has
 enough to do for several threads, beside the fills, which have each worker at work. Both fewer and more threads are wrong.
 
-What is told apart from outside: the words of a large file are read by several threads before it is read in order, live
+What can be distinguished from outside: the words of a large file are read by several threads before it is read in order, live
 objects are checked before the end of the file is asked for, and what comes then is counted as one.
 
 usage: tests/faults/test_threads.py [PROGRAM]      (needs a C compiler)
@@ -40,7 +40,7 @@ class Phase:
     empty: int = 1
 
     def starts(self, most: int) -> int:
-        """How many threads are started for so many at most."""
+        """How many threads are started where there may be this number."""
         threads = min(most, self.worth)
         return threads - 1 + self.empty if threads > 1 else 0
 
@@ -51,7 +51,7 @@ READING, CHECK = "reading", "check"
 
 @dataclasses.dataclass(frozen=True)
 class Heap:
-    """An image of objects of one size with so many references, all to nothing, from one address on, and dead words."""
+    """An image of objects of one size with this number of references, all to nothing, from one address on, and dead words."""
     name: str
     phase: Phase
     version: int
@@ -98,7 +98,7 @@ HEAPS = (
 READY = Heap("ready", Phase("none", 1), 1, 3, 512, objects=64, size=8)
 RECORDINGS = 20
 
-# In a heap of so many regions of eight words workers often open one at once, and some then have to try again.
+# In a heap of this number of regions of eight words workers often open one at once, and some then have to try again.
 CONTENDED = "--words 131072 --live 97 --region-log 3 --seed 3"
 COLLECTIONS = 5
 

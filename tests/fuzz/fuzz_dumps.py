@@ -29,7 +29,7 @@ def answer_of(data: bytes, log: int, allowance: int, live_only: bool, version: i
         wanted = dump_model.make(data, log, allowance, live_only, version)
     except dump_model.Malformed as malformed:
         offset, kind = malformed.args
-        # Where a record is cut, what stands before the cut may be wrong too, and is told first.
+        # Where a record is cut, what stands before the cut may be wrong too, and is reported first.
         place = r"\d+" if kind in ("cut", "name") else str(offset)
         return "malformed", Answer(1, err=re.compile(rf"pcompact: .*byte {place}: .+\n"), made={"imported": None})
     if wanted.image is None:

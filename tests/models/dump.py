@@ -219,7 +219,7 @@ class Dump:
 
 @dataclasses.dataclass
 class Import:
-    """What an import gives: the bytes of the image and the line that is told, or the words that are too many."""
+    """What an import gives: the bytes of the image and the line that is printed, or the words that are too many."""
     image: bytes | None
     line: str
 

@@ -1,6 +1,6 @@
 // Preloaded into a program, notes in order when it starts a thread, and what shows in which phase it does: a letter each for
 // a thread (t), a read (r), one that finds the end (e), a positioned read (p) and a write (w). At exit file descriptor 3 gets
-// the letters. Where THREADS is set, only so many are started.
+// the letters. Where THREADS is set, no more than that number are started.
 #define _GNU_SOURCE
 #include <dlfcn.h>
 #include <errno.h>

@@ -5,7 +5,7 @@
 // The environment has it do more. With SWAPPED a link to that file takes the name of the first such file as soon as that is
 // made: what a stranger may do who can write in the folder. With FAILS the calls that this names fail: `sync`, `rename`,
 // `owner`, `mode`, `empty`, `stat`, `lock`, `write`, with the number ERROR or else EIO; with `none` a write to a file takes no
-// byte. With MEANWHILE that command runs before the first write to a file. With HELD so many MiB of memory are asked for, touched
+// byte. With MEANWHILE that command runs before the first write to a file. With HELD that number of MiB is asked for, touched
 // and given back before the program begins. With AGAIN that file is opened in place of the file `dump` where that is opened for a
 // second time. With RENEWED an empty file takes the place of that one as soon as a file that was there before is to be locked:
 // what two other calls do, one that removes it and one that makes it.
