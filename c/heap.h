@@ -11,7 +11,7 @@ struct tried {
     void *at;
 };
 
-/* A block of so many bytes, which may be 0, aligned to `align`, which is at most 16. */
+/* A block of `size` bytes, which may be 0, aligned to `align`, which is at most 16. */
 struct tried rattle_alloc(size_t size, size_t align);
 
 /* The same block with another size, of which the first `kept` bytes are kept. Where there is none, the old one stays. */

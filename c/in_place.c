@@ -14,7 +14,7 @@ static size_t count_regions(size_t word_count, size_t list_count, uint32_t regio
     return word_count % size == 0 && count <= MAX_REGIONS_V3 ? count : 0;
 }
 
-/* Lists so many regions, for free_list to free. Returns whether there is memory for the list. */
+/* Lists `count` regions, for free_list to free. Returns whether there is memory for the list. */
 static bool make_list(uint64_t *words, size_t count, uint32_t region_log, pcompact_regions *regions) {
     struct tried list = rattle_alloc(count * sizeof(pcompact_words), _Alignof(pcompact_words));
     if (!list.is_ok) return false;
@@ -55,8 +55,7 @@ uint32_t pcompact_collect_in_place_rooted(uint64_t *words, size_t word_count, ui
     return collect_by(pcompact_collect_lent_rooted, words, word_count, roots, root_count, settings, answer);
 }
 
-typedef pcompact_fault lent_begin(pcompact_words *, size_t, const uint64_t *, size_t, pcompact_settings, pcompact_handle *, size_t,
-                                  uint64_t);
+typedef pcompact_fault lent_begin(pcompact_words *, size_t, const uint64_t *, size_t, lent_settings, pcompact_handle *, size_t);
 
 static pcompact_fault begin_by(lent_begin *begin_lent, uint64_t *words, size_t word_count, const uint64_t *list, size_t list_count,
                                pcompact_settings settings, pcompact_handle *handles, size_t worker_count,
@@ -65,8 +64,8 @@ static pcompact_fault begin_by(lent_begin *begin_lent, uint64_t *words, size_t w
     size_t count = count_regions(word_count, list_count, settings.region_log);
     pcompact_regions found;
     if (!make_list(words, count, settings.region_log, &found)) return (pcompact_fault){.number = MEMORY};
-    pcompact_fault fault = begin_lent(found.at, count, list, count > 0 ? list_count : 0, settings, handles, worker_count,
-                                      place_of_listed(found.at));
+    lent_settings lent = {settings, place_of_listed(found.at)};
+    pcompact_fault fault = begin_lent(found.at, count, list, count > 0 ? list_count : 0, lent, handles, worker_count);
     if (fault.number == 0) {
         *regions = found;
     } else {
@@ -91,8 +90,9 @@ pcompact_fault pcompact_begin_in_place_rooted(uint64_t *words, size_t word_count
 uint32_t pcompact_end_in_place(pcompact_handle *handles, size_t worker_count, pcompact_regions *regions, uint64_t *list,
                                size_t list_count, pcompact_answer *answer) {
     if (!regions->at) return refuse(WORKERS, answer);
-    uint32_t fault = pcompact_end_lent_at(handles, worker_count, regions->at, regions->count, list, list_count, answer,
-                                          place_of_listed(regions->at));
+    *answer = pcompact_end_lent_at(handles, worker_count, regions->at, regions->count, list, list_count,
+                                   place_of_listed(regions->at));
+    uint32_t fault = answer->fault.number;
     if (fault == 0 || fault == OVERWRITTEN) free_list(regions);
     return fault;
 }

@@ -5,15 +5,20 @@
 
 #include "pcompact.h"
 
+/* Settings, and the place of the words that are lent. */
+typedef struct lent_settings {
+    pcompact_settings heap;
+    uint64_t place;
+} lent_settings;
+
 pcompact_fault pcompact_begin_lent_at(pcompact_words *words, size_t region_count, const uint64_t *live, size_t live_count,
-                                      pcompact_settings settings, pcompact_handle *handles, size_t worker_count, uint64_t place);
+                                      lent_settings settings, pcompact_handle *handles, size_t worker_count);
 
 pcompact_fault pcompact_begin_lent_rooted_at(pcompact_words *words, size_t region_count, const uint64_t *roots, size_t root_count,
-                                             pcompact_settings settings, pcompact_handle *handles, size_t worker_count,
-                                             uint64_t place);
+                                             lent_settings settings, pcompact_handle *handles, size_t worker_count);
 
-uint32_t pcompact_end_lent_at(pcompact_handle *handles, size_t worker_count, pcompact_words *words, size_t region_count,
-                              uint64_t *list, size_t list_count, pcompact_answer *answer, uint64_t place);
+pcompact_answer pcompact_end_lent_at(pcompact_handle *handles, size_t worker_count, pcompact_words *words, size_t region_count,
+                                     uint64_t *list, size_t list_count, uint64_t place);
 
 /* The place of words that a host lends. It is even, as a struct of words is aligned to 8 bytes. */
 static inline uint64_t place_of_lent(const pcompact_words *words) {

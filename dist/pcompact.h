@@ -244,8 +244,8 @@ typedef struct pcompact_verdict {
 
 /* Returns whether the bytes `after` are the image of the compaction of the image with the bytes `before`, and otherwise
  * tells the first difference: in the sizes, settings and version, else in the words, else in the live addresses, else in the
- * roots. Faults: 0, 1 to 10 and 17 of `before`, 15 as of pcompact_collect, 1 to 10 and 17 of `after`, or 11 if memory runs
- * out. Takes the memory of both images, and what a collection by one worker takes. No pointer is null, and nobody writes
+ * roots. It compares with the definitions, and collects nothing. Faults: 0, 1 to 10 and 17 of `before`, else of `after`, or
+ * 11 if memory runs out. Takes the memory of both images, and of pcompact_summary. No pointer is null, and nobody writes
  * there meanwhile. `verdict` need not be filled before. */
 bool pcompact_verify(const uint8_t *before, size_t before_len, const uint8_t *after, size_t after_len,
                      pcompact_verdict *verdict);

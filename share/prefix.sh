@@ -2,7 +2,7 @@
 # do, and read this file.
 
 # What ./uninstall reads below the prefix: lines `file CHECKSUM PLACE`, and `folder PLACE` for each that ./install made. A
-# PLACE is told from the prefix on, `.` for the prefix itself; that of a folder above it is a whole path.
+# PLACE is relative to the prefix, `.` for the prefix itself; that of a folder above it is a whole path.
 record=libexec/pithondlu/installed
 line='
 '

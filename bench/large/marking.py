@@ -2,7 +2,7 @@
 """How marking by several threads does on large heaps: a random graph, a tree, a list in order, and a list that hops.
 
 Builds `marks.rt.txt` (proved, by `rt`), makes an image of version 3 of each shape by the plain program of
-`bench/end_to_end/plain`, half live, and marks each in memory by `mark_from_roots` and by `mark_from_roots_by_workers` with 1, 2
+`bench/end_to_end/plain`, half live, and marks each in memory by `mark_from_roots` alone and with 1, 2
 and 4 workers: the live list and the check of the live objects included, files not. Prints the median milliseconds, and the
 goals of docs/SPEED.md. A heap of n MiB takes about 2.5 n of memory and 5 n of disk.
 

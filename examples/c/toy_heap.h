@@ -25,13 +25,14 @@ typedef struct toy_heap {
     int collects_always; /* whether each allocation collects first, which finds values that are used after it */
 } toy_heap;
 
-/* A heap of so many words, at least one region, with room for so many roots. It ends the process if memory runs out. */
+/* Makes a heap of `word_count` words, at least one region, with room for `root_room` roots. It ends the process if memory runs
+ * out. */
 toy_heap toy_heap_new(size_t word_count, size_t root_room);
 
 void toy_heap_free(toy_heap *heap);
 
-/* An object with so many references, all null, and words of data, all 0. It ends the process if the heap is full even
- * after a collection. */
+/* Makes an object with `references` references, all null, and `data` words of data, all 0. It ends the process if the heap is
+ * full even after a collection. */
 value toy_new(toy_heap *heap, size_t references, size_t data);
 
 /* The references of an object. */

@@ -35,7 +35,7 @@ PLACES = {
     "share/fish/vendor_completions.d/pcompact.fish": 0o644, "libexec/pithondlu/installed": 0o644,
     "lib/libpcompact.a": 0o644, "include/pcompact.h": 0o644, "lib/pkgconfig/pcompact.pc": 0o644,
 }
-# Tells its version, its words and what the C library is told.
+# Prints its version, its words and the settings of the C library.
 SHOWS = """\
 #!/bin/sh
 printf '%s' "VERSION $# <$*> with $GLIBC_TUNABLES"

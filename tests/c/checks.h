@@ -11,7 +11,7 @@ void check(int holds, const char *what);
 /* Prints how many checks held and how many didn't. Returns the exit status: 1 if one didn't. */
 int end_checks(void);
 
-/* A block of so many bytes, for the caller to free. It ends the process with status 2 if memory runs out. */
+/* A block of `bytes` bytes, for the caller to free. It ends the process with status 2 if memory runs out. */
 void *room_for(size_t bytes);
 
 /* Where the words of an image begin. Its live addresses or roots follow them. */

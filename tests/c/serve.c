@@ -22,7 +22,7 @@ typedef struct reply {
     uint8_t text[64];
 } reply;
 
-/* A block of just so many words, as a tool that watches memory sees. */
+/* A block of exactly this number of words, as a tool that watches memory sees. */
 static uint64_t *read_words(uint64_t count) {
     uint64_t *words = malloc(8 * count);
     if (!words || fread(words, 8, count, stdin) != count) exit(2);

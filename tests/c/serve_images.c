@@ -28,7 +28,7 @@ typedef struct reply {
 
 static void *lists[LISTS];
 
-/* Blocks of just so many bytes, as a tool that watches memory sees. */
+/* Blocks of exactly these sizes, as a tool that watches memory sees. */
 static void read_lists(const request *asked) {
     for (int i = 0; i < LISTS; i++) {
         lists[i] = malloc(element_bytes[i] * asked->counts[i]);

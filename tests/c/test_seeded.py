@@ -89,7 +89,7 @@ class Caller:
             print(f"{what}: " + "; ".join(f"{it} is {getattr(reply, it)!r} and not {wanted[it]!r}"[:600] for it in found))
 
     def try_heap(self, what: str, image: Image, threads: int) -> None:
-        """A heap, valid or not, by each call for its kind, and by so many threads if they are any."""
+        """A heap, valid or not, by each call for its kind, and by this number of threads if it isn't 0."""
         kinds = [COLLECT, COLLECT_IN_PLACE]
         if image.version == 1:
             kinds.append(SUMMARY)

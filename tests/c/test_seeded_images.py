@@ -129,7 +129,7 @@ class ImageCaller(Caller):
                     verdict=(0, DIFFERENCES.get(difference, 0), int(at or 0)))
 
     def try_encoding(self, what: str, image: Image, spare: int) -> None:
-        """With so many bytes more than needed, or fewer."""
+        """With more bytes than needed, or fewer, by this number."""
         call, version = (ENCODE, 1) if image.version == 1 else (ENCODE_ROOTED, 2)
         if image.version != 1 and not allows(2, image.region_log, len(image.words)):
             version = 3

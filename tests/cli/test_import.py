@@ -273,6 +273,19 @@ def try_most_words(tried: Tried) -> None:
                     tried.is_wrong(f"import of {count} words{flag}{words}: the image begins with {tried.read('out')[:32]!r}")
 
 
+def try_widest_array(tried: Tried) -> None:
+    """An array with one reference more than a header counts: of that there is no image, but `--live-only` leaves it out where no root
+    reaches it."""
+    to, count = dump_writer.Writer(4), 2**24
+    heap = to.references(64, []) + to.references(128, [], count) + to.id(64) * count
+    said = refused(f"an object has {count} references, and {count - 1} are the most", {"out": None})
+    alone = Answer(0, "words 512 objects 1 roots 1 live 1 dead 0 dropped-gaps 0 unresolved 0\n")
+    for root, live_only in ((128, said), (64, alone)):
+        tried.write("dump", dump_writer.Writer(4).record(0x0C, heap + to.root(0x05, root)).text())
+        tried.run("import dump out", said)
+        tried.run("import dump out --live-only", live_only)
+
+
 def try_sparse(tried: Tried) -> None:
     """A heap with more words in gaps than in objects, which has version 3 only where that is requested."""
     to = dump_writer.Writer()
@@ -363,8 +376,8 @@ def try_import_files(tried: Tried) -> None:
         tried.is_wrong("a dump that was named twice is changed")
 
 
-GROUPS = (try_imports, try_lists, try_long_names, try_sample, try_malformed_dumps, try_most_words, try_sparse, try_refused_dumps, try_import_words,
-          try_import_files)
+GROUPS = (try_imports, try_lists, try_long_names, try_sample, try_malformed_dumps, try_most_words, try_widest_array, try_sparse,
+          try_refused_dumps, try_import_words, try_import_files)
 
 if __name__ == "__main__":
     sys.exit(try_groups(GROUPS))

@@ -86,7 +86,7 @@ class Imports:
         except dump_model.Malformed as malformed:
             offset, kind = malformed.args
             told = (f"byte {offset}: " in done.stderr and TEXTS[kind] in done.stderr)
-            # Where a record is cut, what stands before the cut may be wrong too, and is told first.
+            # Where a record is cut, what stands before the cut may be wrong too, and is reported first.
             told = told or (kind in ("cut", "name") and "byte " in done.stderr)
             self.note(done.returncode == 1 and done.stdout == "" and not image and told, name, f"{said}, not {malformed}")
             return None

@@ -173,7 +173,7 @@ def try_columns(tried: Tried) -> None:
 
 
 def try_failures(tried: Tried) -> None:
-    """What goes wrong is told behind the erased line, as without the option; and so are timings."""
+    """What goes wrong is reported after the erased line, as without the option; and so are timings."""
     for words in ("collect cut out --workers 1", "verify base base", "collect nothing out --workers 1", "import base out",
                   "collect base /dev/full --workers 1", "record base out base --workers 1", "verify base base --verbose"):
         owed = run(tried, words)

@@ -210,7 +210,7 @@ def try_rooted_verdicts(tried: Tried) -> None:
         tried.run("verify before after", answer)
     tried.write("after", ROOTED_COMPACTED)
     tried.run("verify base after", differs("shape"))
-    # As many objects, but others: the live list is told of before the roots.
+    # As many objects, but others: the live list is reported before the roots.
     words = [header(3, 0), header(1, 0), *[0] * 6]
     for roots, others in (([1], [2]), ([0, 1], [0, 2])):
         tried.write("before", rooted(words, roots))

@@ -75,7 +75,7 @@ allowance 0
 @65537 dead 65535 of 0
 """
 
-# In the text of the base heap with roots: what is changed into what, the line that is told, and what it says.
+# In the text of the base heap with roots: what is changed into what, the line that is reported, and what it says.
 MISTAKES = [
     ("heap version 2", "heap version 4", 1, VERSION),
     ("heap version 2", "heap  version 2", 1, VERSION),

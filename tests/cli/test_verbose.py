@@ -97,7 +97,7 @@ def try_images(tried: Tried) -> None:
         try_both(tried, "summary image", told(f"fault {owed}", "file IMAGE image", *hint))
         tried.run(["verify", "of two", "base", "--verbose"], told(f"fault {owed}", "file BEFORE of two", *hint))
         tried.run(["verify", "base", "of two", "--verbose"], told(f"fault {owed}", "file AFTER of two", *hint))
-        # The first of two faulty images is told.
+        # The first of two faulty images is reported.
         tried.run(["verify", "image", "of two", "--verbose"], told(f"fault {owed}", "file BEFORE image", *hint))
 
 
@@ -174,7 +174,7 @@ def try_workers(tried: Tried) -> None:
 
 
 def try_schedules(tried: Tried) -> None:
-    """Lines that are malformed, not allowed, or have another reply, which is told."""
+    """Lines that are malformed, not allowed, or have another reply, which is reported."""
     malformed = ("reason the line is malformed",)
     not_allowed = ("reason the event is not allowed",)
     schedules = [

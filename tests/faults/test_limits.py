@@ -31,7 +31,7 @@ from tests.support.program import SECONDS, Tried, built
 
 OLD = b"what stood there before" * 40
 KIB = 1024
-# A stack of so many bytes is enough for each command.
+# A stack of this number of bytes is enough for each command.
 STACK = 144 * KIB
 PAGE = 4 * KIB
 LIMITS = {
@@ -40,7 +40,7 @@ LIMITS = {
     "files": resource.RLIMIT_FSIZE,
     "descriptors": resource.RLIMIT_NOFILE,
 }
-# Of a hundred steps so many are of each kind.
+# How many of a hundred steps are of each kind.
 SHARES = {"memory": 64, "stack": 16, "files": 12, "descriptors": 8}
 FAULT_11 = b"pcompact: fault 11 memory\n"
 FAULT_13 = b"pcompact: fault 13 input or output\n"
@@ -174,7 +174,7 @@ class Limited:
         return 0, 16
 
     def try_limits(self, command: Command, steps: int) -> None:
-        """Runs a command in so many limits."""
+        """Runs a command under several limits."""
         right = self.run(command)
         for kind, share in SHARES.items():
             if kind == "files" and not command.made:

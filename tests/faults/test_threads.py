@@ -84,7 +84,7 @@ HEAPS = (
     # For 16,384 times 64 words, and a word of bits more. All of a heap may be as large as this; its words are read, too.
     Heap("marked", Phase("marks", 5, empty=0), 1, 16, 1 << 22),
     # For 8,192 regions. There are no more than twice as many.
-    Heap("counted", Phase("counts", 2, empty=0), 2, 3, 1 << 17),
+    Heap("counted", Phase("counts", 2), 2, 3, 1 << 17),
     # For 512 regions to fill, where objects lie over the border of two.
     Heap("deferred", Phase("update of deferred objects", 4), 1, 3, 18_048, objects=1_500, size=12, references=1, at=9),
     # For 16,384 numbers, of which three have 23,334, 23,334 and 23,332.

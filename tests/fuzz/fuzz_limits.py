@@ -72,7 +72,7 @@ class Limited:
         return done.returncode, done.stdout, done.stderr, out.read_bytes() if out.exists() else None
 
     def try_call(self, chance: random.Random) -> str:
-        """Runs one command without limits and with some, and tells what came of it."""
+        """Runs one command without limits and with some, and reports the results."""
         schedules = [name for name in ("made", "spoiled1", "schedule") if (self.tried.folder / name).exists()]
         words = chance.choice(COMMANDS).format(workers=chance.choice([0, 1, 2, 4, 64]), schedule=chance.choice(schedules or ["image"]))
         is_atomic = " out" in words and chance.randrange(2) == 1

@@ -23,7 +23,7 @@ MIB = 1 << 20
 SECONDS = 1200
 OLD = b"what stood there before" * 40
 NEW = ".pcompact-*"
-# What a call may have in memory besides so many times its image.
+# What a call may have in memory besides a multiple of its image.
 BESIDE = 64 * MIB
 # Too little memory for any large file, in which the program starts.
 LITTLE = 64 * MIB
@@ -100,7 +100,7 @@ class LargeCalls:
             return file.read(8)
 
     def has_room(self, most: float, what: str) -> bool:
-        """Whether so many bytes of memory are free. What would need more is left out."""
+        """Whether this number of bytes of memory is free. What would need more is left out."""
         free = int(re.search(r"MemAvailable: *(\d+) kB", pathlib.Path("/proc/meminfo").read_text())[1]) << 10
         if most > free:
             self.skipped += 1

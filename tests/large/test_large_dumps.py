@@ -40,7 +40,7 @@ COLLECT, VERIFY = 1.5, 3
 
 
 class Imported:
-    """A dump, its image, and what is told of them."""
+    """A dump, its image, and what commands print about them."""
 
     def __init__(self, calls: LargeCalls, dump: LargeDump):
         self.calls = calls

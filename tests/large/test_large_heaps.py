@@ -71,7 +71,7 @@ class Heap:
         self.expect(self.run("verify heap right") == "same\n", "verify finds a difference")
 
     def try_looks(self) -> None:
-        """What is told of the heap alone."""
+        """What commands print about the heap alone."""
         prefix_and_top = self.collected.rpartition(" filled")[0]
         lines = self.run("summary heap").splitlines()
         live = sum(int(partial) + int(begun) for _, partial, begun, *_ in map(str.split, lines[1:]))
@@ -114,7 +114,7 @@ class Heap:
 
 
 def least_log(mib: int) -> int:
-    """The region log of a heap of so many MiB that gives it the most regions."""
+    """The region log that gives a heap of this number of MiB the most regions."""
     return max(3, (mib * MIB // 8 - 1).bit_length() - MAX_REGIONS_LOG)
 
 

@@ -332,7 +332,7 @@ class Lists:
 
 
 def lists(data: bytes, region_log: int = 9, live_only: bool = False, rows: int = 1_000_000) -> Lists:
-    """What is told of the objects of a dump that has an image."""
+    """What `import` prints about the objects of a dump that has an image."""
     dump = Dump(data)
     names = Names(dump)
     live = reached(dump)

@@ -98,7 +98,7 @@ def upgraded(image: Image, version: int = 2) -> Image:
 
 
 def allows(version: int, region_log: int, words: int) -> bool:
-    """Whether an image of this version may have so many words in regions of this size."""
+    """Whether an image of this version may have this number of words in regions of this size."""
     max_log, max_words, max_regions = LIMITS[version]
     return region_log <= max_log and words <= max_words and words >> region_log <= max_regions
 

@@ -1,4 +1,4 @@
-"""Runs a command, and tells what it took."""
+"""Runs a command, and reports what it took."""
 import dataclasses
 import os
 import signal
@@ -25,7 +25,7 @@ class Taken:
 
 
 def measured(command: list, timeout: float, **how) -> Taken:
-    """Runs a command, found as a shell finds it, with these streams and this folder, for so many seconds at most."""
+    """Runs a command, found as a shell finds it, with these streams and this folder, for at most this number of seconds."""
     reading, writing = os.pipe()
     words = [sys.executable, "-IS", "-c", MEASURE, writing, *command]
     with open(reading, "rb") as told:

@@ -53,7 +53,7 @@ def usage(text: str) -> Answer:
 
 
 class Tried:
-    """A copy of the program in a folder, and how often it was tried and wrong. What is wrong is told at once."""
+    """A copy of the program in a folder, and how often it was tried and wrong. What is wrong is printed at once."""
 
     def __init__(self, program: pathlib.Path, folder: pathlib.Path, tell: Callable[[str], None] = print):
         self.program = folder / "pcompact"

@@ -4,8 +4,8 @@
 Builds `codec.rt.txt` (proved, by `rt`), `plain.rs` and `marking.rs` (by `rustc -O`) in the scratch folder, generates an
 image of 4,194,304 words in regions of 512, half of them live, and runs the programs in turn, each time in a process of
 its own. For each call it prints the median time of heap_image and of plain Rust, their ratio (above 1.00 heap_image is
-slower), and the ratio to one copy of the 32 MiB of words. Plain Rust does all by one thread; `decode_by_threads` and
-`read_image_by_threads` check the live objects by all processors. Marking is of one thread, over three heaps of version
+slower), and the ratio to one copy of the 32 MiB of words. Plain Rust does all by one thread; `decode_by_many` and
+`read_image_by_many` check the live objects by all processors. Marking is of one thread, over three heaps of version
 2: with few references, with many, and a linked list of a million objects in random order. Ends with status 1 where a
 ratio to plain Rust is above the goal, or where two programs made different images or live lists. A second run with the
 same scratch folder builds only what has changed.
@@ -24,8 +24,8 @@ sys.path.insert(0, str(here.parents[1]))
 from building import compiled, proved
 
 # Of each call the goal for its ratio to plain Rust.
-CALLS = dict.fromkeys(["decode", "decode_by_threads", "encode"], 1.6)
-CALLS |= dict.fromkeys(["read_image", "read_image_by_threads", "write_image"], 1.6)
+CALLS = dict.fromkeys(["decode", "decode_by_many", "encode"], 1.6)
+CALLS |= dict.fromkeys(["read_image", "read_image_by_many", "write_image"], 1.6)
 # Of each heap to mark what its generator is told besides its size.
 HEAPS = {"few": ["--references", "5"], "many": ["--references", "70"], "list": ["--references", "0", "--shape", "list"]}
 GOALS = CALLS | dict.fromkeys(HEAPS, 1.3)
@@ -75,7 +75,7 @@ fine = True
 copy = median([theirs["copy"] for _, theirs in rounds])
 print(f"one copy of the words {copy:.1f} ms")
 for call, goal in GOALS.items():
-    answers = [ours[call] for ours, _ in rounds], [theirs[call.removesuffix("_by_threads")] for _, theirs in rounds]
+    answers = [ours[call] for ours, _ in rounds], [theirs[call.removesuffix("_by_many")] for _, theirs in rounds]
     ours, theirs = map(median, answers)
     same = len({seen for _, seen in itertools.chain(*answers)}) == 1
     fine = fine and same and ours / theirs <= goal

@@ -99,7 +99,7 @@ static void write_heap(const heap *it, const char *name) {
     free(bytes);
 }
 
-/* How a heap is collected by one call, and by so many threads. `parts` has room for its regions, which lending needs. */
+/* How a heap is collected by one call, and by a number of threads. `parts` has room for its regions, which lending needs. */
 typedef uint32_t one_call(heap *, pcompact_words *parts, pcompact_answer *);
 typedef uint32_t by_threads(heap *, pcompact_words *parts, size_t thread_count, pcompact_answer *);
 
@@ -129,7 +129,7 @@ static void *work(void *handle) {
     return NULL;
 }
 
-/* Lets all workers work once a begin had this fault. The calling thread is one of them. */
+/* Starts all workers once a begin had this fault. The calling thread is one of them. */
 static void work_by(pcompact_fault begun, pcompact_handle *handles, size_t thread_count) {
     pthread_t threads[MAX_THREADS];
     if (begun.number != 0) fail_by(begun);

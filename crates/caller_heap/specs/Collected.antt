@@ -1,9 +1,18 @@
--- Why a heap is not collected.
+-- What a collection leaves beside the words, and why there is none.
 use Rattle.std.specs.Prelude.{◌≡◌, ◌⊎◌, ℕ, List, Some}
 use Rattle.image_streams.specs.declared.fault.Fault.{Fault}
 use Rattle.image_streams.specs.declared.fault.Fault.TheVariants.{Memory}
+use Rattle.object_heap.specs.HeapImage.{HeapImage}
+use Rattle.object_heap.specs.declared.version.Version.{Version}
+use Rattle.object_heap.specs.declared.version.Version.TheVariants.{One, Two, Three}
 use Rattle.heap_image.specs.ImageText.{first_fault}
 use Rattle.fill.specs.FillFaults.{IsOverwritten}
+
+-- the live addresses of an image of version 1, otherwise its roots
+abbrev pub IsTailOf : Version → HeapImage → List ℕ → Type 0
+IsTailOf One image tail = tail ≡ image.live
+IsTailOf Two image tail = image.roots ≡ Some tail
+IsTailOf Three image tail = image.roots ≡ Some tail
 
 -- memory ran out, it is the first fault of the bytes of the image, or a cell or a queue contradicts the order of work
 abbrev pub IsWhyKept : List ℕ → Fault → Type 0

@@ -5,13 +5,7 @@ use Rattle.std.specs.Ptr.{Ptr}
 use Rattle.image_streams.specs.declared.fault.Fault.{Fault}
 use Rattle.image_streams.specs.declared.fault.Fault.TheVariants.{Length}
 use Rattle.object_heap.specs.HeapImage.{HeapImage, block_of, region_count}
-use Rattle.heap_image.specs.ImageText.{from_tail}
-use Rattle.heap_image.specs.Unchecked.{numbers_in}
-use Rattle.heap_image.specs.declared.from_regions.UncheckedParts.{UncheckedParts}
-use Rattle.heap_image.specs.declared.from_regions.RefusedRegions.{RefusedRegions}
 use Rattle.caller_heap.specs.Collected.{IsWhyKept}
-use Rattle.caller_heap.specs.declared.lent_collection.Failure.{Failure}
-use Rattle.caller_heap.specs.declared.lent_collection.Failure.TheVariants.{Kept, Lost}
 
 -- as contracts see words of a host: whether they are held, where they are, how many, and what they are
 abbrev pub Lent : Type 0
@@ -60,16 +54,3 @@ HoldImage image words = map content words ≡ map held (blocks_of image)
 -- what keeps words from being collected where they lie: what keeps others, or that they aren't a region each
 abbrev pub IsWhyLentKept : ℕ → List Lent → List ℕ → Fault → Type 0
 IsWhyLentKept region_log words bytes fault = IsWhyKept bytes fault ⊎ ((fault ≡ Length) × (AreRegions region_log words → ⊥))
-
--- the image of unchecked parts, if they have no fault
-abbrev pub image_in : UncheckedParts → HeapImage
-image_in parts = from_tail parts.version (numbers_in parts)
-
--- what holds of regions that are kept, and of a fault after which they are lost
-abbrev pub IfKept : Failure → (RefusedRegions → Type 0) → Type 0
-IfKept (Kept refused) fact = fact refused
-IfKept (Lost fault) fact = Unit {0}
-
-abbrev pub IfLost : Failure → (Fault → Type 0) → Type 0
-IfLost (Kept refused) fact = Unit {0}
-IfLost (Lost fault) fact = fact fault

@@ -1,4 +1,4 @@
-//! The collection of a heap of either kind, and an image's words put over it.
+//! The collection of a copy of a heap's words, and an image's words put over them.
 ghost use Rattle.std.specs.Prelude.{◌≡◌, ◌⊎◌, IfOk, OnErr, IfErr, length};
 ghost use Rattle.image_streams.specs.declared.fault.Fault.TheVariants.{Memory};
 ghost use Rattle.object_heap.specs.HeapImage.{HeapImage, IsValid, heap_words};
@@ -6,7 +6,7 @@ ghost use Rattle.heap_image.specs.ImageText.{text, with_tail};
 ghost use Rattle.summary.specs.Compaction.{compact};
 ghost use Rattle.fill.specs.FillFaults.{IsOverwritten};
 ghost use Rattle.collector.specs.Collections.{figures_of};
-ghost use Rattle.caller_heap.specs.Collected.{IsWhyKept};
+ghost use Rattle.caller_heap.specs.Collected.{IsTailOf, IsWhyKept};
 ghost use Rattle.caller_heap.specs.HeapWords.{heap_bytes};
 
 use crate::reading::image_of_heap;
@@ -15,18 +15,23 @@ use collector::{Figures, OpenGate, collect_alone};
 use heap_image::{Fault, Image, Version};
 use std::alloc::Global;
 
-/// Compacts a heap with these words and, in version 1, live addresses, otherwise roots, and writes the compaction over
-/// them. If there is a fault, nothing is written.
-pub(crate) fn collect_heap(
+/// Compacts the heap with these words in place. In version 1 `tail` has the live addresses, which become the new ones in
+/// the same order. Otherwise it has the roots: the live objects are those that they reach, and the roots then lead to their
+/// new addresses. After a fault words and tail are as they were.
+///
+/// The fault is the first fault of the bytes of its image, 3, 4, 6 to 9 or 17, or 11 if memory runs out, or 15 if a cell or
+/// a queue contradicts the order of work. Takes the memory of a copy of the words, and what a collection by one worker
+/// takes.
+pub fn collect_words(
     alloc: Global,
     version: Version,
     settings: HeapSettings,
     words: &mut [u64],
     tail: &mut [u64],
 ) -> Result<Figures, Fault>
-    ensures collected { IfOk result (λ figures. (image : HeapImage) × IsValid image × (image.version ≡ version)
+    ensures collected { IfOk result (λ figures. (image : HeapImage) × IsValid image
         × (heap_bytes version settings words.old tail.old ≡ text image)
-        × (words.new ≡ (compact image).words) × (tail.new ≡ (with_tail (compact image)).live)
+        × (words.new ≡ (compact image).words) × IsTailOf version (compact image) tail.new
         × (figures ≡ figures_of image)) }
     ensures kept { OnErr result ((words.new ≡ words.old) × (tail.new ≡ tail.old)) }
     ensures fault { IfErr result (IsWhyKept (heap_bytes version settings words.old tail.old)) }
@@ -41,7 +46,7 @@ pub(crate) fn collect_heap(
 /// The compaction of an image by one worker in the caller's thread, and its figures.
 ///
 /// Fails with fault 11 if memory runs out, or 15 if a cell or a queue contradicts the order of work; the image is lost then.
-pub fn compact_image(alloc: Global, image: Image) -> Result<(Image, Figures), Fault>
+fn compact_image(alloc: Global, image: Image) -> Result<(Image, Figures), Fault>
     ensures image { IfOk result (λ done. done.0 ≡ compact image) }
     ensures figures { IfOk result (λ done. done.1 ≡ figures_of image) }
     ensures fault { IfErr result (λ fault. (fault ≡ Memory) ⊎ IsOverwritten fault) }

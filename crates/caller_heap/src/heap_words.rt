@@ -3,11 +3,10 @@ ghost use Rattle.std.specs.Prelude.{◌≡◌, ◌<◌, ◌≤◌, ◌*◌, ◌^
 ghost use Rattle.std.specs.List.{concat};
 ghost use Rattle.object_heap.specs.HeapImage.{AreBlocks};
 ghost use Rattle.heap_image.specs.ImageText.{front};
-ghost use Rattle.object_heap.specs.Version.{magic};
 ghost use Rattle.caller_heap.specs.HeapWords.{bytes_left};
 
 use crate::settings::HeapSettings;
-use heap_image::{Body, BodySize, FRONT_BYTES, Failed, Intake, Version, regions_by_log};
+use heap_image::{Body, BodySize, FRONT_BYTES, Failed, Front, Intake, Version, regions_by_log};
 use raw_region::{Region, RegionPool};
 use std::alloc::{AllocError, Global};
 
@@ -78,25 +77,14 @@ pub fn front_of(
 ) -> [u8; FRONT_BYTES]
     ensures { result ≡ front version settings.region_log (min numbers 4294967295) words settings.allowance }
 {
-    let count = numbers.min(u32::MAX as usize) as u32;
-    let mut bytes = [0; FRONT_BYTES];
-    bytes[..8].copy_from_slice(magic(version));
-    bytes[8..12].copy_from_slice(&settings.region_log.to_le_bytes());
-    bytes[12..16].copy_from_slice(&count.to_le_bytes());
-    bytes[16..24].copy_from_slice(&(words as u64).to_le_bytes());
-    bytes[24..].copy_from_slice(&settings.allowance.to_le_bytes());
-    bytes
-}
-
-/// The first bytes of an image.
-fn magic(version: Version) -> &'static [u8]
-    ensures { result.now ≡ magic version }
-{
-    match version {
-        Version::One => b"PCHEAP01",
-        Version::Two => b"PCHEAP02",
-        Version::Three => b"PCHEAP03",
-    }
+    let front = Front {
+        version,
+        region_log: settings.region_log,
+        count: numbers.min(u32::MAX as usize) as u32,
+        words: words as u64,
+        allowance: settings.allowance,
+    };
+    front.to_bytes()
 }
 
 /// A body with copies of these words and numbers.

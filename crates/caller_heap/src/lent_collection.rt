@@ -1,97 +1,133 @@
-//! The collection of a heap in regions that a host lends.
-ghost use Rattle.std.specs.Prelude.{◌≡◌, ◌⊎◌, IfOk, OnOk, IfErr, Some};
-ghost use Rattle.image_streams.specs.declared.fault.Fault.TheVariants.{Memory};
-ghost use Rattle.object_heap.specs.HeapImage.{HeapImage, IsValid, AreBlocks};
-ghost use Rattle.heap_image.specs.ImageText.{text, with_tail, first_fault, listed_text};
-ghost use Rattle.heap_image.specs.Unchecked.{numbers_in};
+//! Collections of a heap where its words lie, in regions that a host lends.
+ghost use Rattle.std.specs.Prelude.{◌≡◌, ◌⊎◌, All, IsTrue, IfOk, OnOk, IfErr, length, vec_len};
+ghost use Rattle.image_streams.specs.declared.fault.Fault.TheVariants.{Memory, Workers};
+ghost use Rattle.object_heap.specs.HeapImage.{HeapImage, IsValid, region_count};
+ghost use Rattle.heap_image.specs.ImageText.{text, with_tail};
 ghost use Rattle.summary.specs.Compaction.{compact};
 ghost use Rattle.fill.specs.FillFaults.{IsOverwritten};
 ghost use Rattle.collector.specs.Collections.{figures_of};
+ghost use Rattle.collector.specs.Sessions.{image_of};
+ghost use Rattle.caller_heap.specs.Collected.{IsTailOf};
 ghost use Rattle.caller_heap.specs.HeapWords.{heap_bytes};
-ghost use Rattle.caller_heap.specs.Lent.{AreBack, HoldImage, IfKept, IfLost, IsWhyLentKept, blocks_of, heap_in, image_in};
+ghost use Rattle.caller_heap.specs.Lent.{AreBack, HoldImage, IsGone, IsWhyLentKept, heap_in};
+ghost use Rattle.caller_heap.specs.Parts.{IsPartOf};
+ghost use Rattle.caller_heap.specs.declared.part.Origin.TheVariants.{Lent};
 
 use crate::collection::put_tail;
-use crate::lending::{keep_all, lend_all};
+use crate::lending::{image_of_lent, keep_image};
+use crate::part::{Origin, Part, boxed_parts};
 use crate::settings::HeapSettings;
-use collector::{Figures, OpenGate, Outcome, Refusal, collect_alone};
-use heap_image::{Fault, RefusedRegions, UncheckedParts, Version, image_of_regions};
+use collector::{Figures, OpenGate, Outcome, Refusal, Share, collect_alone};
+use heap_image::{Fault, Image, Version};
 use raw_region::HostWords;
 use std::alloc::Global;
 
-/// Compacts the heap in these words where they lie, a region each, with these live addresses in version 1, otherwise
-/// roots.
-pub(crate) fn collect_lent(
+/// Compacts the heap with these words, a region each from address 0 up, where they lie: afterwards each holds its region's
+/// words of the compaction. `tail` is that of [`collect_words`](crate::collect_words). No word is copied but by the
+/// compaction.
+///
+/// The fault is that of [`collect_words`](crate::collect_words), or 4 if some words aren't held or are more or fewer than
+/// a region has. After a fault all are held as they were; only after fault 15 nothing is promised of words and tail.
+pub fn collect_lent_words(
     alloc: Global,
     version: Version,
     settings: HeapSettings,
     words: &mut [HostWords],
     tail: &mut [u64],
 ) -> Result<Figures, Fault>
-    ensures collected { IfOk result (λ figures. (image : HeapImage) × IsValid image × (image.version ≡ version)
+    ensures collected { IfOk result (λ figures. (image : HeapImage) × IsValid image
         × (heap_bytes version settings (heap_in words.old) tail.old ≡ text image)
-        × HoldImage (compact image) words.new × (tail.new ≡ (with_tail (compact image)).live)
+        × HoldImage (compact image) words.new × IsTailOf version (compact image) tail.new
         × (figures ≡ figures_of image)) }
     ensures kept { IfErr result (λ fault. (AreBack words.old words.new × (tail.new ≡ tail.old)) ⊎ IsOverwritten fault) }
     ensures fault { IfErr result
         (IsWhyLentKept settings.region_log words.old (heap_bytes version settings (heap_in words.old) tail.old)) }
 {
-    if tail.len() > u32::MAX as usize {
-        return Err(Fault::Memory);
-    }
-    let numbers = Vec::from_slice(alloc, tail)?;
-    let regions = lend_all(alloc, words, settings.region_log)?;
-    let parts = UncheckedParts {
-        version,
-        region_log: settings.region_log,
-        allowance: settings.allowance,
-        regions,
-        tail: numbers,
-    };
-    match compact_parts(alloc, parts) {
-        Ok(outcome) => {
-            put_tail(&outcome.image, tail);
-            keep_all(words, outcome.image.into_parts().regions)?;
-            Ok(outcome.figures)
-        }
-        Err(Failure::Kept(refused)) => {
-            keep_all(words, refused.regions)?;
-            Err(refused.fault)
-        }
-        Err(Failure::Lost(fault)) => Err(fault),
-    }
-}
-
-/// Why regions were not collected.
-#[derive(Drop)]
-pub(crate) enum Failure {
-    /// No word has moved.
-    Kept(RefusedRegions),
-    /// Words may have moved.
-    Lost(Fault),
-}
-
-/// Compacts the image of these parts, by one worker in the caller's thread.
-fn compact_parts(alloc: Global, parts: UncheckedParts) -> Result<Outcome, Failure>
-    requires { AreBlocks parts.region_log parts.regions.items }
-    ensures valid { OnOk result (IsValid (image_in parts)) }
-    ensures image { IfOk result (λ outcome. outcome.image ≡ compact (image_in parts)) }
-    ensures figures { IfOk result (λ outcome. outcome.figures ≡ figures_of (image_in parts)) }
-    ensures text { OnOk result (text (image_in parts) ≡ listed_text parts.version (numbers_in parts)) }
-    ensures blocks { OnOk result (parts.regions.items ≡ blocks_of (image_in parts)) }
-    ensures kept { IfErr result (λ failure. IfKept failure (λ refused. (refused.regions.items ≡ parts.regions.items)
-        × ((refused.fault ≡ Memory) ⊎ (first_fault (listed_text parts.version (numbers_in parts)) ≡ Some refused.fault)))) }
-    ensures lost { IfErr result (λ failure. IfLost failure IsOverwritten) }
-{
-    let image = match image_of_regions(alloc, parts) {
-        Ok(image) => image,
-        Err(refused) => return Err(Failure::Kept(refused)),
-    };
+    let image = image_of_lent(alloc, version, settings, words, tail)?;
     match collect_alone(alloc, image, &OpenGate) {
-        Ok((outcome, _board)) => Ok(outcome),
+        Ok((outcome, _board)) => put_back(outcome, words, tail),
         Err(Refusal::Kept(image, fault)) => {
-            let regions = image.into_parts().regions;
-            Err(Failure::Kept(RefusedRegions { regions, fault }))
+            keep_image(words, image)?;
+            Err(fault)
         }
-        Err(Refusal::Lost(fault)) => Err(Failure::Lost(fault)),
+        Err(Refusal::Lost(fault)) => Err(fault),
     }
+}
+
+/// Begins a collection of an image in these words by `workers` workers, and returns a part for each, which says that the
+/// words were lent in a list at this place. Its end by [`end_lent_words`](crate::end_lent_words) puts the words back; until
+/// then none is held.
+///
+/// The fault is 12 if there aren't 1 to 64 workers, or 11 if memory runs out. All words are held as they were then; only
+/// after fault 15, if a cell contradicts the order of work, nothing is promised of them.
+pub fn begin_lent(
+    alloc: Global,
+    image: Image,
+    words: &mut [HostWords],
+    workers: u32,
+    place: u64,
+) -> Result<Vec<Box<Part, Global>>, Fault>
+    requires gone { All IsGone words.old }
+    requires count { length words.old ≡ region_count image }
+    ensures parts { IfOk result (λ parts. All (λ part. IsPartOf image (Lent place) part.value) parts.items) }
+    ensures count { IfOk result (λ parts. vec_len parts ≡ workers) }
+    ensures gone { OnOk result (All IsGone words.new) }
+    ensures back { IfErr result (λ fault. HoldImage image words.new ⊎ IsOverwritten fault) }
+    ensures fault { IfErr result (λ fault. (fault ≡ Workers) ⊎ ((fault ≡ Memory) ⊎ IsOverwritten fault)) }
+{
+    match boxed_parts(alloc, image, workers, Origin::Lent(place)) {
+        Ok(parts) => Ok(parts),
+        Err(Refusal::Kept(image, fault)) => {
+            keep_image(words, image)?;
+            Err(fault)
+        }
+        Err(Refusal::Lost(fault)) => Err(fault),
+    }
+}
+
+/// Whether the session's image has `regions` regions and, in version 1, `numbers` live addresses, otherwise roots.
+pub fn suits(share: &Share, regions: usize, numbers: usize) -> bool
+    ensures regions { IsTrue result → regions ≡ region_count (image_of share.now) }
+    ensures numbers { IsTrue result → numbers ≡ length (with_tail (image_of share.now)).live }
+{
+    regions == share.regions() as usize && numbers == share.numbers()
+}
+
+/// Ends a session over lent words that [`suits`](crate::suits): fills what is left to fill, gives the words of the
+/// compaction back to the host, each region in its place, and writes the new live addresses or roots. `others` are the
+/// shares of all other workers.
+///
+/// Fails with fault 12 if these aren't all shares of one session, and with fault 15 if the words weren't lent, or a cell or
+/// a queue contradicts the order of work. The words are lost then.
+pub fn end_lent_words(
+    words: &mut [HostWords],
+    tail: &mut [u64],
+    share: Share,
+    others: Vec<Share>,
+) -> Result<Figures, Fault>
+    requires gone { All IsGone words.old }
+    requires words { length words.old ≡ region_count (image_of share) }
+    requires tail { length tail.old ≡ length (with_tail (image_of share)).live }
+    ensures words { OnOk result (HoldImage (compact (image_of share)) words.new) }
+    ensures tail { OnOk result (tail.new ≡ (with_tail (compact (image_of share))).live) }
+    ensures figures { IfOk result (λ figures. figures ≡ figures_of (image_of share)) }
+    ensures fault { IfErr result (λ fault. (fault ≡ Workers) ⊎ IsOverwritten fault) }
+{
+    let outcome = share.end(others)?;
+    put_back(outcome, words, tail)
+}
+
+/// Gives the words of a compaction back, each region in its place, and writes its live addresses or roots. Fails with fault
+/// 15 if the words weren't lent.
+fn put_back(outcome: Outcome, words: &mut [HostWords], tail: &mut [u64]) -> Result<Figures, Fault>
+    requires gone { All IsGone words.old }
+    requires words { length words.old ≡ region_count outcome.image }
+    requires tail { length tail.old ≡ length (with_tail outcome.image).live }
+    ensures put { IfOk result (λ figures. HoldImage outcome.image words.new
+        × (tail.new ≡ (with_tail outcome.image).live) × (figures ≡ outcome.figures)) }
+    ensures fault { IfErr result IsOverwritten }
+{
+    put_tail(&outcome.image, tail);
+    keep_image(words, outcome.image)?;
+    Ok(outcome.figures)
 }

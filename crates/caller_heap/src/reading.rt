@@ -8,7 +8,7 @@ ghost use Rattle.caller_heap.specs.HeapWords.{heap_bytes};
 
 use crate::heap_words::{HeapWords, front_of};
 use crate::settings::HeapSettings;
-use heap_image::{Fault, Image, Version, read_image, text_tells_its_size};
+use heap_image::{Alone, Fault, Image, Version, read_image, text_tells_its_size};
 use std::alloc::Global;
 
 /// The image of a heap with these words and, in version 1, live addresses, otherwise roots. If it isn't valid, the first
@@ -35,7 +35,7 @@ pub fn image_of_heap(
         tail,
         has_failed: false,
     };
-    match read_image(alloc, &mut heap) {
+    match read_image(alloc, &mut heap, &Alone) {
         Ok(image) => Ok(image),
         Err(fault) => Err(without_device(fault)),
     }

@@ -15,7 +15,7 @@ use crate::rule::steps::{Place, Words};
 use crate::rule::{About, Note, Sees, Takes};
 use std::marker::Brand;
 
-/// Lets the seat see the whole history.
+/// Makes the seat see the whole history.
 fn see<E: About>(words: &Words, seat: &mut Place)
     requires seat { seat.old.table_id ≡ words.now.table_id }
     requires size { words.now.table_id.words ≡ suc (region_count words.now.key.moves) }
@@ -26,7 +26,7 @@ fn see<E: About>(words: &Words, seat: &mut Place)
     words.load::<Sees<E>>(seat, 0);
 }
 
-/// Lets the seat see the history that another seat has passed to it.
+/// Makes the seat see the history that another seat has passed to it.
 fn adopt_history(words: &Words, seat: &mut Place)
     requires seat { seat.old.table_id ≡ words.now.table_id }
     requires size { words.now.table_id.words ≡ suc (region_count words.now.key.moves) }

@@ -6,12 +6,13 @@ ghost use Rattle.collection_commands.specs.Figures.{IsFigures, figures_line};
 
 use crate::collection::{Run, collect_files, late_file};
 use crate::figures::{FiguresLine, LINE_ROOM, with_line};
-use crate::workers::Workers;
-use collector::{Gate, collect_stream};
+use crate::timed_gate::TimedGate;
+use collector::collect;
 use command_files::{SystemFile, WorkDone, image_and_out};
 use command_line::Collect;
 use command_support::Trouble;
-use heap_image::{Fault, Intake, Outlet};
+use command_times::Phase;
+use heap_image::{Fault, Intake, Many, Outlet, read_image, write_image_buffered};
 use std::os::unix::fs::FileExt;
 use std::rt::Files;
 use std::sync::Wait;
@@ -30,18 +31,18 @@ where
     let run = Run::start(rt, request.stats, request.workers);
     let (image, out) = image_and_out(rt, request.image, request.out, request.atomic)?;
     let out = late_file(rt, out, None, image.regular_len())?;
-    collect_files(rt, run, image.with_shape(request.shape), out, None)
+    collect_files(rt, &run, image.with_shape(request.shape), out, None)
 }
 
 /// Reads an image, collects it, and writes its compaction. Returns the figures of the collection, with the line for
 /// standard output.
 ///
 /// Nothing is allocated once a byte is written.
-pub fn collect_into<R: AllocGlobal + Threads + Wait + Sync, I: Intake, O: Outlet, G: Gate + Sync>(
+pub fn collect_into<R: AllocGlobal + Threads + Wait + Clock + Sync, I: Intake, O: Outlet>(
     rt: &R,
+    run: &Run<'_, R>,
     input: &mut I,
     output: &mut O,
-    workers: Workers<'_, G>,
 ) -> Result<FiguresLine, Fault>
     ensures collection { IfOk result (λ done. IsCollection (I.left input.old) (I.left input.new)
         (O.took output.old) (O.took output.new) (string_bytes done.line)) }
@@ -53,8 +54,22 @@ pub fn collect_into<R: AllocGlobal + Threads + Wait + Sync, I: Intake, O: Outlet
     ensures nothing_yet { IfErr result (λ fault. fault ≢ Fault.Io → output.new ≡ output.old) }
     ensures fault { IfErr result (IsFirstOfBytes (I.left input.old)) }
 {
-    let line = String::with_capacity(rt.alloc(), LINE_ROOM)?;
-    let Workers { count, gate } = workers;
-    let figures = collect_stream(rt.alloc(), input, output, count, gate, rt, rt)?;
-    Ok(with_line(figures, line))
+    let alloc = rt.alloc();
+    let line = String::with_capacity(alloc, LINE_ROOM)?;
+    let workers = Many {
+        threads: rt,
+        most: run.workers as usize,
+    };
+    let image = read_image(alloc, input, &workers)?;
+    run.times.end(Phase::Check);
+    let gate = TimedGate::new(rt, run.times.watch());
+    match collect(alloc, image, run.workers, &gate, rt, rt) {
+        Ok((outcome, _finished)) => {
+            gate.end_collection(&run.times);
+            write_image_buffered(alloc, &outcome.image, output)?;
+            run.times.end(Phase::Write);
+            Ok(with_line(outcome.figures, line))
+        }
+        Err(refusal) => Err(refusal.fault()),
+    }
 }

@@ -6,8 +6,8 @@ use collector::{
     ExplainedWord, Explanation, Found, Lead, Moved, OtherLive, OtherRoot, Part, explain,
 };
 use heap_image::{
-    Body, FRONT_BYTES, Fault, FileStore, Heap, Image, Version, blocks_joined, body_at,
-    extent_after_front,
+    Body, FRONT_BYTES, Fault, FileStore, Heap, Image, Version, all_processors, blocks_joined,
+    body_at, extent_after_front,
 };
 use std::alloc::Global;
 use std::fmt;
@@ -73,7 +73,7 @@ fn heap_of<'a>(body: &'a Body, region_log: u32) -> Option<Heap<'a>>
     Some(Heap::new(body.regions.as_slice(), region_log))
 }
 
-/// What a file holds: behind its words it lists the roots, or the live addresses.
+/// What a file holds: after its words come the roots, or the live addresses.
 fn contents<'a>(heap: &'a Heap<'a>, tail: &'a [u64], has_roots: bool) -> Found<'a> {
     if has_roots {
         Found {
@@ -100,7 +100,7 @@ fn explanation_of_words(
     ignore_free: bool,
     threads: &(impl Threads + Sync),
 ) -> Result<String, Fault> {
-    match explain(alloc, was, found, ignore_free, threads)? {
+    match explain(alloc, was, found, ignore_free, &all_processors(threads))? {
         Some(explanation) => {
             let lines = Lines {
                 explanation: &explanation,

@@ -23,14 +23,12 @@
 
 pub mod collect;
 mod collection;
-mod collection_times;
 mod explanation;
 mod figures;
 mod out_file;
 pub mod record;
 mod timed_gate;
 pub mod verify;
-mod workers;
 
+pub use collection::Run;
 pub use figures::FiguresLine;
-pub use workers::Workers;

@@ -31,8 +31,8 @@ where
         }
     }
 
-    /// Writes the zeros at the end that were left out, also where a collection failed once the image was whole, and
-    /// passes on the outcome. Fault 13 if the file fails.
+    /// Writes the zeros at the end that were left out, even if the collection failed after the whole image was written.
+    /// Returns the outcome, or fault 13 if the file fails.
     pub fn end(&mut self, outcome: Result<FiguresLine, Fault>) -> Result<FiguresLine, Fault>
         ensures { IfOk result (λ line. outcome ≡ Ok line) }
     {
@@ -53,8 +53,8 @@ where
         self.file.write(bytes).ok()
     }
 
-    /// Skips the zeros that were left out but for the last, which is written, so that the file has its length even if
-    /// no more follows. None if the file fails or takes no byte.
+    /// Skips all zeros that were left out except the last, and writes that one, so that the file has its length even if
+    /// nothing follows. None if the file fails or takes no byte.
     fn write_hole(&mut self) -> Option<()>
         ensures { self.new.failed ≡ self.old.failed }
     {

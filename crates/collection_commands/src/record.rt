@@ -6,14 +6,16 @@ ghost use Rattle.collection_commands.specs.Figures.{IsFigures, figures_line};
 
 use crate::collection::{Run, collect_files, late_file};
 use crate::figures::{FiguresLine, LINE_ROOM, with_line};
-use crate::workers::Workers;
-use collector::{Gate, record_stream};
+use crate::timed_gate::TimedGate;
+use collector::record;
 use command_files::{
     FileTarget, Late, SystemFile, WorkDone, must_differ, output_must_differ, same_file,
 };
 use command_line::Record;
 use command_support::{FileId, FileWord, Role, Trouble, Watched};
-use heap_image::{Fault, Intake, Outlet};
+use command_times::Phase;
+use heap_image::{Fault, Intake, Many, Outlet, give_all, read_image, write_image_buffered};
+use history::write_schedule;
 use std::alloc::Global;
 use std::os::unix::fs::FileExt;
 use std::rt::Files;
@@ -34,13 +36,13 @@ where
     let (image, out, schedule) = image_out_and_schedule(rt, &request)?;
     let image = image.with_shape(request.shape);
     let (out, schedule) = both_late(rt, out, image.regular_len(), schedule)?;
-    collect_files(rt, run, image, out, Some(schedule))
+    collect_files(rt, &run, image, out, Some(schedule))
 }
 
 /// The file to read, and the two to write.
 type ImageOutAndSchedule<'a, F> = (Watched<'a, F>, FileTarget<'a, F>, FileTarget<'a, F>);
 
-/// Opens the image, then finds OUT and the schedule's file. No two may be one file, but for the first two with
+/// Opens the image, then finds OUT and the schedule's file. No two may be one file, except the first two with
 /// `--atomic`.
 fn image_out_and_schedule<'a, H: Files + AllocGlobal>(
     host: &H,
@@ -65,7 +67,7 @@ struct Named<'a> {
     schedule: FileWord<'a>,
 }
 
-/// Rejects two equal names, but for IMAGE and OUT with `--atomic`.
+/// Rejects two equal names, except those of IMAGE and OUT with `--atomic`.
 fn names_must_differ(alloc: Global, named: Named<'_>, atomic: bool) -> Result<(), Trouble> {
     if !atomic {
         output_must_differ(alloc, named.image, named.out)?;
@@ -148,20 +150,14 @@ fn one_file<'a, H: Files>(
 /// figures of the collection, with the line for standard output.
 ///
 /// Nothing is allocated once a byte is written.
-pub fn record_into<
-    R: AllocGlobal + Threads + Wait + Sync,
-    I: Intake,
-    O: Outlet,
-    L: Outlet,
-    G: Gate + Sync,
->(
+pub fn record_into<R: AllocGlobal + Threads + Wait + Clock + Sync, I: Intake, O: Outlet, L: Outlet>(
     rt: &R,
+    run: &Run<'_, R>,
     input: &mut I,
     output: &mut O,
     lines: &mut L,
-    workers: Workers<'_, G>,
 ) -> Result<FiguresLine, Fault>
-    ensures record { IfOk result (λ done. IsRecording workers.entry.count (I.left input.old) (I.left input.new)
+    ensures record { IfOk result (λ done. IsRecording run.now.workers (I.left input.old) (I.left input.new)
         (O.took output.old) (O.took output.new)
         (L.took lines.old) (L.took lines.new) (string_bytes done.line)) }
     ensures figures { IfOk result (λ done. string_bytes done.line ≡ figures_line done.figures) }
@@ -178,13 +174,23 @@ pub fn record_into<
 {
     let alloc = rt.alloc();
     let line = String::with_capacity(alloc, LINE_ROOM)?;
-    let Workers { count, gate } = workers;
-    let crew = collector::Workers {
-        count,
-        gate,
+    let workers = Many {
         threads: rt,
-        wait: rt,
+        most: run.workers as usize,
     };
-    let figures = record_stream(alloc, input, output, lines, crew)?;
-    Ok(with_line(figures, line))
+    let image = read_image(alloc, input, &workers)?;
+    run.times.end(Phase::Check);
+    let gate = TimedGate::new(rt, run.times.watch());
+    match record(alloc, image, run.workers, &gate, rt, rt) {
+        Ok((outcome, schedule)) => {
+            let text = write_schedule(alloc, &schedule)?;
+            gate.end_collection(&run.times);
+            write_image_buffered(alloc, &outcome.image, output)?;
+            run.times.end(Phase::Write);
+            give_all(lines, text.as_slice())?;
+            run.times.end(Phase::Schedule);
+            Ok(with_line(outcome.figures, line))
+        }
+        Err(refusal) => Err(refusal.fault()),
+    }
 }

@@ -1,5 +1,5 @@
 use collector::Gate;
-use command_times::Stopwatch;
+use command_times::{Phase, PhaseTimes, Stopwatch};
 use std::sync::atomic::{AtomicU64, Ordering};
 use std::time::{Clock, Duration};
 
@@ -28,8 +28,16 @@ impl<'h, H: Clock> TimedGate<'h, H> {
         }
     }
 
+    /// Ends the phases of a collection, which has ended: it was prepared until the first fill, or else until now.
+    pub fn end_collection(&self, times: &PhaseTimes<'_, H>) {
+        let now = self.watch.elapsed(self.clock);
+        times.end_at(Phase::Prepare, self.begun().or(now));
+        times.end_at(Phase::Fills, self.ended());
+        times.end_at(Phase::CleanUp, now);
+    }
+
     /// When the first fill began. None if no fill has begun.
-    pub fn begun(&self) -> Option<Duration> {
+    fn begun(&self) -> Option<Duration> {
         match self.begun.load(Ordering::Relaxed) {
             NEVER => None,
             nanoseconds => Some(Duration::from_nanos(nanoseconds)),
@@ -37,7 +45,7 @@ impl<'h, H: Clock> TimedGate<'h, H> {
     }
 
     /// When the last fill ended. None if no fill has ended.
-    pub fn ended(&self) -> Option<Duration> {
+    fn ended(&self) -> Option<Duration> {
         match self.ended.load(Ordering::Relaxed) {
             0 => None,
             nanoseconds => Some(Duration::from_nanos(nanoseconds)),

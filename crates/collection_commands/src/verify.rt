@@ -9,15 +9,15 @@ use command_files::{WorkDone, two_inputs};
 use command_host::ImageFile;
 use command_line::Verify;
 use command_support::{Difference, Failure, FileWord, Role, Screen, Trouble, Watched};
-use command_times::{Laps, Phase, Stats, Stopwatch, TimedIntake};
-use heap_image::{Fault, Image, Intake, read_image_by_threads};
+use command_times::{Phase, PhaseTimes, Stats};
+use heap_image::{Fault, Image, Intake, all_processors, read_image};
 use rayon::current_num_threads;
 use std::alloc::Global;
 use std::fs::OpenFile;
 use std::os::unix::fs::FileExt;
 use std::rt::Files;
 use std::thread::Threads;
-use std::time::{Clock, Duration};
+use std::time::Clock;
 
 /// Compares the image in one file with the compaction of another, and returns what `verify` prints if they are equal. A
 /// difference is explained if the request asks for it, or if a person reads standard error.
@@ -30,7 +30,7 @@ where
     R::File: FileExt + Sync,
     ensures { IfOk result (λ done. done.text.items ≡ codes "same\n") }
 {
-    let watch = Stopwatch::start(rt, request.stats);
+    let times = PhaseTimes::start(rt, request.stats);
     let before = FileWord::new(Role::Before, request.before);
     let after = FileWord::new(Role::After, request.after);
     let wishes = Wishes {
@@ -38,75 +38,18 @@ where
         ignore_free: request.ignore_free,
     };
     let (was, is) = two_inputs(rt, before, after)?;
-    let (mut was, mut is, ahead) = read_ahead(rt, watch, was.with_shape(request.shape), is);
-    let verified = verify_images(rt.alloc(), &mut was, &mut is, rt, wishes);
-    let stats = ahead.stats(rt, &was, &is);
+    let readers = current_num_threads(rt);
+    let was = was.with_shape(request.shape);
+    let mut was = ImageFile::read_ahead(rt, was, readers, &times, Phase::ReadBefore);
+    let mut is = ImageFile::read_ahead(rt, is, readers, &times, Phase::ReadAfter);
+    let verified = verify_images(rt, &times, &mut was, &mut is, wishes);
+    times.end(Phase::Compare);
     match verified {
-        Ok(compared) => report(rt.alloc(), compared, after, stats),
+        Ok(compared) => report(rt.alloc(), compared, after, Stats::of_comparison(&times)),
         Err(refused) => {
             let (was, is) = (was.into_inner(), is.into_inner());
-            Err(trouble(rt, refused, &was.into_inner(), &is.into_inner(), wishes))
+            Err(trouble(rt, refused, &was, &is, wishes))
         }
-    }
-}
-
-/// An image to read.
-type TimedImage<'h, 'a, H, F> = TimedIntake<'h, H, ImageFile<'a, F>>;
-
-/// The two images to read, and when they were read ahead.
-type TimedImages<'h, 'a, H, F> = (TimedImage<'h, 'a, H, F>, TimedImage<'h, 'a, H, F>, Ahead);
-
-/// Reads both ahead, by as many threads as there are processors.
-fn read_ahead<'h, 'a, H: AllocGlobal + Threads + Clock + Sync, F>(
-    rt: &'h H,
-    watch: Stopwatch,
-    was: Watched<'a, F>,
-    is: Watched<'a, F>,
-) -> TimedImages<'h, 'a, H, F>
-where
-    F: OpenFile + FileExt + Sync + Drop,
-{
-    let readers = current_num_threads(rt);
-    let was = ImageFile::read_ahead(rt, was, readers);
-    let first = watch.elapsed(rt);
-    let is = ImageFile::read_ahead(rt, is, readers);
-    let ahead = Ahead {
-        watch,
-        first,
-        second: watch.elapsed(rt),
-    };
-    let was = TimedIntake::new(rt, watch, was);
-    (was, TimedIntake::new(rt, watch, is), ahead)
-}
-
-/// When two images were read ahead.
-#[derive(Clone, Copy)]
-struct Ahead {
-    watch: Stopwatch,
-    first: Option<Duration>,
-    second: Option<Duration>,
-}
-
-impl Ahead {
-    /// What `--stats` prints of a comparison of these images that ends now.
-    fn stats<H: Clock, I: Drop>(
-        self,
-        clock: &H,
-        was: &TimedIntake<'_, H, I>,
-        is: &TimedIntake<'_, H, I>,
-    ) -> Stats {
-        let laps = Laps::new()
-            .then(Phase::ReadBefore, self.without(was.came()))
-            .then(Phase::CheckBefore, self.without(was.ended()))
-            .then(Phase::ReadAfter, is.came())
-            .then(Phase::CheckAfter, is.ended())
-            .then(Phase::Compare, self.watch.elapsed(clock));
-        Stats::of_comparison(self.watch, laps)
-    }
-
-    /// A time as if nothing had happened while the second was read ahead.
-    fn without(self, time: Option<Duration>) -> Option<Duration> {
-        Some(time?.saturating_sub(self.second?.saturating_sub(self.first?)))
     }
 }
 
@@ -215,31 +158,34 @@ pub struct Refused {
 /// the first difference.
 ///
 /// A fault is the first of `before`, else the first of `after`, or that memory ran out.
-pub fn verify_images<R: Intake, S: Intake, T: Threads + Sync>(
-    alloc: Global,
+pub fn verify_images<H: AllocGlobal + Threads + Clock + Sync, R: Intake, S: Intake>(
+    rt: &H,
+    times: &PhaseTimes<'_, H>,
     before: &mut R,
     after: &mut S,
-    threads: &T,
     wishes: Wishes,
 ) -> Result<Compared, Refused>
     ensures verdict { IfOk result (λ compared. IsVerdictOf wishes.ignore_free (R.left before.old) (R.left before.new)
         (S.left after.old) (S.left after.new) compared.verdict) }
     ensures fault { IfErr result (λ refused. IsUnverified (R.left before.old) (R.left before.new) (S.left after.old) refused.why) }
 {
-    let was = match read_image_by_threads(alloc, before, threads) {
+    let alloc = rt.alloc();
+    let was = match read_image(alloc, before, &all_processors(rt)) {
         Ok(image) => image,
         Err(fault) => return Err(refusal(Unverified::Before(fault), None)),
     };
-    let is = match read_image_by_threads(alloc, after, threads) {
+    times.end(Phase::CheckBefore);
+    let is = match read_image(alloc, after, &all_processors(rt)) {
         Ok(image) => image,
         Err(fault) => return Err(refusal(Unverified::After(fault), Some(was))),
     };
-    let verdict = match verdict_on(alloc, &was, &is, threads, wishes.ignore_free) {
+    times.end(Phase::CheckAfter);
+    let verdict = match verdict_on(alloc, &was, &is, rt, wishes.ignore_free) {
         Ok(verdict) => verdict,
         Err(fault) => return Err(refusal(Unverified::Neither(fault), None)),
     };
     let explanation = if wishes.explain && verdict != Verdict::Same {
-        explanation_of_images(alloc, &was, &is, wishes.ignore_free, threads).ok()
+        explanation_of_images(alloc, &was, &is, wishes.ignore_free, rt).ok()
     } else {
         None
     };
@@ -266,9 +212,10 @@ fn verdict_on(
     ensures verdict { IfOk result (IsVerdictOn ignore_free was.now is.now) }
     ensures fault { IfErr result (λ fault. fault ≡ Memory) }
 {
+    let verifier = all_processors(threads);
     if ignore_free {
-        verify_below_top(alloc, was, is, threads)
+        verify_below_top(alloc, was, is, &verifier)
     } else {
-        verify(alloc, was, is, threads)
+        verify(alloc, was, is, &verifier)
     }
 }

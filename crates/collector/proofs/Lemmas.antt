@@ -6,3 +6,4 @@ pub mod Streams
 pub mod Losses
 pub mod Upgrades
 pub mod Ends
+pub mod Crossing

@@ -1,4 +1,4 @@
-ghost use Rattle.std.specs.Prelude.{◌≡◌, ◌≢◌, ◌↔◌, ◌⊎◌, ℕ, IsTrue, All, IfOk, OnErr, IfErr, MatchResult, Err};
+ghost use Rattle.std.specs.Prelude.{◌≡◌, ◌≢◌, ◌↔◌, ◌⊎◌, ℕ, IsTrue, IfOk, OnErr, IfErr, MatchResult, Err};
 ghost use Rattle.std.specs.Io.KnownBytes.{Appends};
 ghost use Rattle.object_heap.specs.HeapImage.{HeapImage};
 ghost use Rattle.heap_image.specs.ImageText.{text};
@@ -6,10 +6,8 @@ ghost use Rattle.heap_image.specs.Reading.{IsRead};
 ghost use Rattle.heap_image.specs.Refusals.{IsOfReading};
 ghost use Rattle.summary.specs.Compaction.{compact};
 ghost use Rattle.scheduler.specs.ImageMoves.{image_table};
-ghost use Rattle.scheduler.specs.State.{AllAreSettled};
-ghost use Rattle.scheduler.specs.History.{IsLegal, state_of};
+ghost use Rattle.scheduler.specs.History.{IsLegal};
 ghost use Rattle.scheduler.specs.Whole.{HasEachOnce};
-ghost use Rattle.claim_board.specs.Boards.{moves as moves_of, worker_count, identity, board_of};
 ghost use Rattle.claim_board.specs.Finishes.{history};
 ghost use Rattle.fill.specs.FillFaults.{IsOverwritten};
 ghost use Rattle.collector.specs.Halts.{MayRefuse};
@@ -17,31 +15,23 @@ ghost use Rattle.collector.specs.Collections.{figures_of, AreNoneOrTooMany, IfKe
 ghost use Rattle.collector.specs.Streams.{IsTextBegun, IsFirstOfBytes, MayRefuseRead};
 ghost use Rattle.collector.specs.declared.outcome.Refusal.TheVariants.{Kept, Lost};
 
-pub(crate) mod alone;
 pub(crate) mod clean_up;
 mod collection_desk;
-mod ended;
-pub(crate) mod equipment;
-pub(crate) mod hands;
-pub(crate) mod prepared;
-mod reading;
-pub(crate) mod record_streaming;
+pub(crate) mod compaction;
 pub(crate) mod recording;
-mod redirect;
+pub(crate) mod redirector;
 
 use crate::gate::Gate;
 use crate::outcome::{Figures, Outcome, Refusal};
 use crate::workers::start_line::StartLine;
-use claim_board::{Board, Finished, Pass};
-use ended::Worked;
-use hands::Many;
-use heap_image::{Fault, Image, Intake, Outlet, write_image_buffered};
-use prepared::Prepared;
-use reading::read_whole;
-use scheduler::{moves_are_lawful, settled_histories_have_each_once};
+use claim_board::{Board, Finished};
+use compaction::{Compaction, finish_collection};
+use heap_image::{Fault, Image, Intake, Outlet, read_image, write_image_buffered};
+use retry_policy::Tries;
 use std::alloc::Global;
 use std::sync::Wait;
 use std::thread::Threads;
+use thread_row::{Alone, Many};
 
 /// Reads an image, compacts it as [`collect`] does, and writes the compaction.
 ///
@@ -87,6 +77,26 @@ pub fn collect_stream<R: Intake, O: Outlet, G: Gate + Sync, T: Threads + Sync, W
     }
 }
 
+/// Reads all of the input, the text of an image, and checks it with at most `workers` threads. A fault is the first of
+/// the input, or 11 if memory runs out, or 13 if the device fails.
+fn read_whole<R: Intake>(
+    alloc: Global,
+    reader: &mut R,
+    workers: u32,
+    threads: &(impl Threads + Sync),
+) -> Result<Image, Fault>
+    ensures read { IfOk result (λ image. IsRead image (R.left reader.old) (R.left reader.new)) }
+    ensures bytes { IfErr result (IsFirstOfBytes (R.left reader.old)) }
+    ensures device { result ≡ Err Fault.Io → IsTrue (R.has_failed reader.new) }
+    ensures kind { IfErr result IsOfReading }
+{
+    let many = Many {
+        threads,
+        most: workers as usize,
+    };
+    read_image(alloc, reader, &many)
+}
+
 /// Compacts an image. Its regions are filled by 1 to 64 workers, each in a thread of its own if one can be started.
 ///
 /// Returns `Kept` before any worker begins: with fault 12 exactly if the number of workers, which is tested first,
@@ -113,44 +123,35 @@ pub fn collect<G: Gate + Sync, T: Threads + Sync, W: Wait + Sync>(
     ensures lost { IfErr result (λ refusal. IfLost refusal (λ fault. (fault ≡ Fault.Gate) ⊎ IsOverwritten fault)) }
     ensures gate { result ≡ Err (Lost Fault.Gate) → MayRefuse (G.may_refuse gate.now) workers image }
 {
-    let hands = Many {
+    let many = Many {
         threads,
         most: workers as usize,
     };
-    let prepared = match Prepared::<Board>::new(alloc, image, workers, &hands) {
-        Ok(prepared) => prepared,
-        Err((image, fault)) => return Err(Refusal::Kept(image, fault)),
-    };
-    let ended = prepared.run(&StartLine::open(), gate, threads, wait)?;
-    let worked = ended.clean_up(&hands)?;
-    Ok(finish_collection(worked)?)
+    let mut compaction = Compaction::<Board>::prepare(alloc, image, workers, &many)?;
+    compaction.work(&StartLine::open(), gate, threads, wait)?;
+    Ok(finish_collection(compaction, &many)?)
 }
 
-/// The outcome of a collection, and its finished board.
-fn finish_collection(worked: Worked<Board>) -> Result<(Outcome, Finished), Fault>
-    requires moves { moves_of worked.desk ≡ image_table worked.survey }
-    requires seats { All (λ pass. board_of pass ≡ identity worked.desk) worked.seats.items }
-    ensures outcome { IfOk result (λ done. done.0 ≡ worked.outcome) }
-    ensures legal { IfOk result (λ done. IsLegal (image_table worked.survey) (worker_count worked.desk) (history done.1)) }
-    ensures once { IfOk result (λ done. HasEachOnce (image_table worked.survey) (history done.1)) }
-    ensures fault { IfErr result IsOverwritten }
+/// Compacts an image in the caller's thread. Starts no thread, and never waits.
+///
+/// Returns `Kept` with fault 11 if memory runs out, before any region is filled. Returns `Lost` afterwards: with fault
+/// 16 if the gate refused a region, and with fault 15 if a cell or a queue contradicts the order of work.
+///
+/// Nothing is allocated once regions are filled.
+pub fn collect_alone<G: Gate>(
+    alloc: Global,
+    image: Image,
+    gate: &G,
+) -> Result<(Outcome, Finished), Refusal>
+    ensures image { IfOk result (λ done. done.0.image ≡ compact image) }
+    ensures figures { IfOk result (λ done. done.0.figures ≡ figures_of image) }
+    ensures legal { IfOk result (λ done. IsLegal (image_table image) 1 (history done.1)) }
+    ensures once { IfOk result (λ done. HasEachOnce (image_table image) (history done.1)) }
+    ensures kept { IfErr result (λ refusal. IfKept refusal (λ back fault. (back ≡ image) × (fault ≡ Fault.Memory))) }
+    ensures lost { IfErr result (λ refusal. IfLost refusal (λ fault. (fault ≡ Fault.Gate) ⊎ IsOverwritten fault)) }
+    ensures gate { result ≡ Err (Lost Fault.Gate) → MayRefuse (G.may_refuse gate.now) 1 image }
 {
-    settled_histories_have_each_once();
-    moves_are_lawful(worked.survey.plan());
-    let finished = finish(worked.desk, worked.seats)?;
-    Ok((worked.outcome, finished))
-}
-
-/// Finishes the board. Contracts don't show the flag that stops workers early, so none says that the board is finished
-/// here.
-fn finish(board: Board, passes: Vec<Pass>) -> Result<Finished, Fault>
-    requires { All (λ pass. board_of pass ≡ identity board) passes.items }
-    ensures legal { IfOk result (λ finished. IsLegal (moves_of board) (worker_count board) (history finished)) }
-    ensures settled { IfOk result (λ finished. AllAreSettled (moves_of board) (state_of (history finished))) }
-    ensures fault { IfErr result IsOverwritten }
-{
-    match board.finish(passes) {
-        Some(finished) => Ok(finished),
-        None => Err(Fault::Overwritten(0)),
-    }
+    let mut compaction = Compaction::<Board>::prepare(alloc, image, 1, &Alone)?;
+    compaction.work_alone(gate, &Tries { most: 0 })?;
+    Ok(finish_collection(compaction, &Alone)?)
 }

@@ -41,10 +41,8 @@ mod outcome;
 mod session;
 mod workers;
 
-pub use collection::alone::collect_alone;
-pub use collection::record_streaming::record_stream;
-pub use collection::recording::record;
-pub use collection::{collect, collect_stream};
+pub use collection::recording::{record, record_stream};
+pub use collection::{collect, collect_alone, collect_stream};
 pub use gate::{Gate, OpenGate};
 pub use laws::an_upgrade_is_collected_alike;
 pub use outcome::{Figures, Outcome, Refusal};
@@ -54,7 +52,7 @@ pub use session::progress::Progress;
 pub use session::share::Share;
 pub use verification::{
     ExplainedWord, Explanation, Found, LISTED, Lead, Moved, OtherLive, OtherRoot, OtherWord, Part,
-    Verdict, explain, verify, verify_below_top,
+    Verdict, Verifier, explain, verify, verify_below_top,
 };
 pub use workers::Workers;
 pub use workers::worker::Halt;

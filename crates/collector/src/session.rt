@@ -1,10 +1,8 @@
 //! A collection in steps, whose workers run by the caller's calls.
 ghost use Rattle.std.specs.Prelude.{◌≡◌, ◌<◌, ◌⊎◌, ◌↔◌, All, length, vec_len, IfOk, IfErr, IfSome, Err};
-ghost use Rattle.object_heap.specs.HeapImage.{region_count};
 ghost use Rattle.heap_image.specs.ImageText.{with_tail};
 ghost use Rattle.summary.specs.Compaction.{compact};
-ghost use Rattle.scheduler.specs.ImageMoves.{image_table};
-ghost use Rattle.claim_board.specs.Boards.{moves as moves_of, identity, board_of};
+ghost use Rattle.claim_board.specs.Boards.{identity, board_of};
 ghost use Rattle.fill.specs.FillFaults.{IsOverwritten};
 ghost use Rattle.collector.specs.Collections.{figures_of, AreNoneOrTooMany, IfKept, IfLost};
 ghost use Rattle.collector.specs.declared.outcome.Refusal.TheVariants.{Kept};
@@ -14,56 +12,32 @@ mod dealing;
 pub(crate) mod progress;
 pub(crate) mod share;
 
-use crate::collection::clean_up::clean_up;
-use crate::collection::hands::Alone;
-use crate::collection::prepared::Prepared;
+use crate::collection::compaction::Compaction;
 use crate::gate::OpenGate;
-use crate::outcome::{Figures, Outcome, Refusal};
-use crate::workers::crew::Crew;
-use crate::workers::start_line::StartLine;
+use crate::outcome::{Outcome, Refusal};
+use crate::workers::fill_task::FillTask;
+use crate::workers::shared::Shared;
 use crate::workers::worker::{Halt, Worker};
 use claim_board::{Board, Pass};
+use crossbeam_utils::Backoff;
 use dealing::shares_of;
 use heap_image::{Fault, Image, Version};
 use progress::Progress;
-use ready_queues::Thief;
-use region_cells::Cells;
 use retry_policy::Tries;
 use share::Share;
 use std::alloc::Global;
-use std::sync::atomic::{AtomicBool, AtomicUsize, Ordering};
-use summary::Survey;
+use std::sync::atomic::{AtomicUsize, Ordering};
+use thread_row::Alone;
 
-/// What the workers of a collection in steps have in common. Each of them has a [`Share`].
+/// A collection in steps. Each of its workers has a [`Share`].
+#[derive(Drop)]
 pub struct Session {
-    pub(crate) survey: Survey,
-    desk: Board,
-    cells: Cells,
-    /// A handle to each worker's queue, by worker number.
-    thieves: Vec<Thief>,
-    /// Set once some worker has met a fault.
-    stop: AtomicBool,
+    pub(crate) shared: Shared<Board>,
     /// How many live addresses the image has in version 1, otherwise how many roots.
     numbers: usize,
-    /// How many shares their owner counts.
-    at_hand: AtomicUsize,
-    ghost moves: { moves_of desk ≡ image_table survey },
-    ghost same_cells: { cells ≡ survey },
-    ghost listed: { numbers ≡ length (with_tail survey).live },
-}
-
-impl Drop for Session {
-    fn drop(self) {
-        let Self {
-            survey,
-            desk,
-            cells,
-            thieves,
-            stop,
-            numbers,
-            at_hand,
-        } = self;
-    }
+    /// How many shares are presented to end the session.
+    presented: AtomicUsize,
+    ghost listed: { numbers ≡ length (with_tail shared.survey).live },
 }
 
 impl Session {
@@ -83,93 +57,54 @@ impl Session {
         ensures lost { IfErr result (λ refusal. IfLost refusal IsOverwritten) }
     {
         let numbers = numbers_of(&image);
-        let prepared = match Prepared::<Board>::new(alloc, image, workers, &Alone) {
-            Ok(prepared) => prepared,
-            Err((image, fault)) => return Err(Refusal::Kept(image, fault)),
+        let compaction = Compaction::<Board>::prepare(alloc, image, workers, &Alone)?;
+        let session = Session {
+            shared: compaction.shared,
+            numbers,
+            presented: AtomicUsize::new(0),
         };
-        match shares_of(alloc, prepared, numbers) {
-            Ok(shares) => Ok(shares),
-            Err(Some(image)) => Err(Refusal::Kept(image, Fault::Memory)),
-            Err(None) => Err(Refusal::Lost(Fault::Overwritten(0))),
-        }
-    }
-
-    /// How many regions the heap has.
-    fn regions(&self) -> u32
-        ensures { result ≡ region_count self.now.survey }
-    {
-        self.survey.plan().regions()
+        shares_of(alloc, session, compaction.workers)
     }
 
     /// The image, if no region has been written.
     fn into_image(self) -> Option<Image>
-        ensures { IfSome result (λ image. image ≡ self.survey) }
+        ensures { IfSome result (λ image. image ≡ self.shared.survey) }
     {
-        let Session {
-            survey: _,
-            desk: _,
-            cells,
-            thieves: _,
-            stop: _,
-            numbers: _,
-            at_hand: _,
-        } = self;
-        cells.into_image()
+        self.shared.into_image()
     }
 
     /// Lets a worker fill regions that are ready, at most `turns`. A fault of this worker stops the others.
-    fn fill_ready(
-        &self,
-        number: u32,
-        worker: &mut Worker<Pass>,
-        turns: u64,
-    ) -> Result<Progress, Halt>
-        requires number { number < vec_len self.now.thieves }
-        requires seat { board_of worker.old.seat ≡ identity self.now.desk }
-        ensures seat { board_of worker.new.seat ≡ identity self.now.desk }
-        ensures end { IfErr worker.new.end MayEnd }
+    fn work(&self, number: u32, worker: &mut Worker<Pass>, turns: u64) -> Result<Progress, Halt>
+        requires number { number < vec_len self.now.shared.thieves }
+        requires seat { board_of worker.old.seat ≡ identity self.now.shared.desk }
+        ensures seat { board_of worker.new.seat ≡ identity self.now.shared.desk }
+        ensures end { IfErr worker.new.result MayEnd }
         ensures halt { IfErr result MayEnd }
     {
-        let (start, policy) = (StartLine::open(), Tries { most: u64::MAX });
-        let crew = Crew {
-            desk: &self.desk,
-            cells: &self.cells,
-            survey: &self.survey,
+        let task = FillTask {
+            shared: &self.shared,
             gate: &OpenGate,
-            wait: &policy,
-            thieves: self.thieves.as_slice(),
-            start: &start,
-            stop: &self.stop,
+            wait: &Tries { most: u64::MAX },
         };
-        let filled = crew.fill_ready(number, worker, turns);
-        worker.end = match filled {
+        let filled = task.fill_ready(number, worker, turns, &Backoff::new());
+        worker.result = match filled {
             Ok(_) => Ok(()),
             Err(halt) => Err(halt),
         };
         if let Err(Halt::Failed(_)) = filled {
-            self.stop.store(true, Ordering::SeqCst);
+            self.shared.stop.store(true, Ordering::SeqCst);
         }
         filled
     }
 
-    /// Cleans up, once no worker is left. Returns fault 15 if a region has not moved.
+    /// Cleans up once no worker is left. Returns fault 15 if a region has not moved.
     fn clean_up(self) -> Result<Outcome, Fault>
-        ensures image { IfOk result (λ outcome. outcome.image ≡ compact self.survey) }
-        ensures figures { IfOk result (λ outcome. outcome.figures ≡ figures_of self.survey) }
+        ensures image { IfOk result (λ outcome. outcome.image ≡ compact self.shared.survey) }
+        ensures figures { IfOk result (λ outcome. outcome.figures ≡ figures_of self.shared.survey) }
         ensures fault { IfErr result IsOverwritten }
     {
-        let Session {
-            survey,
-            desk: _,
-            cells,
-            thieves: _,
-            stop: _,
-            numbers: _,
-            at_hand: _,
-        } = self;
-        let image = clean_up(cells, &survey, &Alone)?;
-        let figures = Figures::of(survey.plan());
-        Ok(Outcome { image, figures })
+        let (outcome, _, _) = self.shared.clean_up(&Alone)?;
+        Ok(outcome)
     }
 }
 

@@ -1,5 +1,6 @@
-pub(crate) mod crew;
-pub(crate) mod staff;
+pub(crate) mod fill_task;
+pub(crate) mod queues;
+pub(crate) mod shared;
 pub(crate) mod start_line;
 pub(crate) mod worker;
 

@@ -2,7 +2,7 @@
 use crate::checks::equal;
 use crate::heaps::{compacted_text, figures};
 use collector::{Figures, OpenGate, collect_alone};
-use heap_image::{Fault, decode, encode};
+use heap_image::{Alone, Fault, decode, encode};
 use heap_samples::Base;
 use std::alloc::Global;
 use std::test::Fail;
@@ -12,7 +12,7 @@ fn collected_alone(
     alloc: Global,
     (before, after): (&[u8], &[u8]),
 ) -> Result<(Figures, bool), Fault> {
-    let image = decode(alloc, before)?;
+    let image = decode(alloc, before, &Alone)?;
     match collect_alone(alloc, image, &OpenGate) {
         Ok((outcome, _finished)) => {
             let text = encode(alloc, &outcome.image)?;

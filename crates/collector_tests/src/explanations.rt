@@ -5,7 +5,7 @@ use crate::checks::equal_at;
 use collector::{
     ExplainedWord, Found, Lead, OtherLive, OtherRoot, Verdict, explain, verify, verify_below_top,
 };
-use heap_image::{Fault, Image, decode_by_threads};
+use heap_image::{Fault, Image, all_processors, decode};
 use heap_samples::{
     BASE_LIVE, BASE_ROOTS, BASE_WORDS, MOVED_LIVE, MOVED_ROOTS, MOVED_WORDS, Settings, image_of,
     rooted_text,
@@ -37,7 +37,7 @@ fn differences_of(
     found: Found<'_>,
     threads: &(impl Threads + Sync),
 ) -> Result<Option<Differences>, Fault> {
-    match explain(alloc, before, found, false, threads)? {
+    match explain(alloc, before, found, false, &all_processors(threads))? {
         Some(explanation) => Ok(Some(Differences {
             count: explanation.count,
             first: explanation.first.as_slice().first().copied(),
@@ -56,9 +56,9 @@ fn differences_of_roots(
 ) -> Result<Option<Differences>, Fail> {
     let settings = Settings::of_base(0);
     let before = rooted_text(alloc, settings, &BASE_WORDS, &BASE_ROOTS)?;
-    let before = decode_by_threads(alloc, before.as_slice(), threads)?;
+    let before = decode(alloc, before.as_slice(), &all_processors(threads))?;
     let after = rooted_text(alloc, settings, &MOVED_WORDS, &MOVED_ROOTS)?;
-    let after = decode_by_threads(alloc, after.as_slice(), threads)?;
+    let after = decode(alloc, after.as_slice(), &all_processors(threads))?;
     let heap = after.heap();
     let found = Found {
         heap: &heap,
@@ -116,8 +116,9 @@ fn verdicts(
     let settings = Settings::of_base(0);
     let before = image_of(alloc, settings, &BASE_WORDS, &BASE_LIVE, threads)?;
     let after = image_of(alloc, settings, words, &MOVED_LIVE, threads)?;
-    let all = verify(alloc, &before, &after, threads)?;
-    Ok((all, verify_below_top(alloc, &before, &after, threads)?))
+    let verifier = all_processors(threads);
+    let all = verify(alloc, &before, &after, &verifier)?;
+    Ok((all, verify_below_top(alloc, &before, &after, &verifier)?))
 }
 
 #[test]

@@ -2,7 +2,7 @@
 ghost use Rattle.std.specs.Prelude.{◌≡◌};
 
 use collector::{Figures, Gate, Outcome, Verdict, collect, record, verify};
-use heap_image::{Fault, Image, decode_by_threads, encode};
+use heap_image::{Fault, Image, all_processors, decode, encode};
 use heap_samples::{BASE_LIVE, BASE_WORDS, Settings, image_of};
 use history::{End, Schedule, replay};
 use plain_compaction::compact_plainly;
@@ -11,6 +11,7 @@ use std::sync::Wait;
 use std::test::Fail;
 use std::thread::Threads;
 use summary::Survey;
+use thread_row::Many;
 
 /// The header of an object of `size` words without references.
 const fn plain(size: u64) -> u64 {
@@ -74,7 +75,7 @@ impl Heap<'_> {
         threads: &(impl Threads + Sync),
     ) -> Result<(), Fail> {
         let before = self.image(alloc, threads)?;
-        if verify(alloc, &before, after, threads)? == Verdict::Same {
+        if verify(alloc, &before, after, &all_processors(threads))? == Verdict::Same {
             Ok(())
         } else {
             Err(Fail::from("not the compaction"))
@@ -144,7 +145,7 @@ fn is_replayed(
     schedule: &Schedule,
     threads: &(impl Threads + Sync),
 ) -> Result<bool, Fault> {
-    let survey = Survey::of(alloc, image, threads)?;
+    let survey = Survey::of(alloc, image, &all_processors(threads))?;
     ends_compacted(alloc, image, &survey, schedule, threads)
 }
 
@@ -168,7 +169,10 @@ fn is_compacted(
     threads: &(impl Threads + Sync),
 ) -> Result<bool, Fault> {
     match ended {
-        End::Finished(after) => Ok(verify(alloc, image, after, threads)? == Verdict::Same),
+        End::Finished(after) => {
+            let verdict = verify(alloc, image, after, &all_processors(threads))?;
+            Ok(verdict == Verdict::Same)
+        }
         End::Open => Ok(false),
     }
 }
@@ -187,7 +191,7 @@ pub(crate) fn compacted_text(
     text: &[u8],
     threads: &(impl Threads + Sync),
 ) -> Result<Vec<u8>, Fault> {
-    let before = decode_by_threads(alloc, text, threads)?;
+    let before = decode(alloc, text, &all_processors(threads))?;
     text_compacted(alloc, &before)
 }
 

@@ -2,14 +2,14 @@
 use crate::checks::equal;
 use crate::heaps::{compacted_text, figures};
 use collector::{Figures, Progress, Session, Share};
-use heap_image::{Fault, decode, encode};
+use heap_image::{Alone, Fault, decode, encode};
 use heap_samples::Base;
 use std::alloc::Global;
 use std::test::Fail;
 
 /// The shares of a session over the image with this text.
 fn shares_of(alloc: Global, text: &[u8], workers: u32) -> Result<Vec<Share>, Fault> {
-    match Session::prepare(alloc, decode(alloc, text)?, workers) {
+    match Session::prepare(alloc, decode(alloc, text, &Alone)?, workers) {
         Ok(shares) => Ok(shares),
         Err(refusal) => Err(refusal.fault()),
     }
@@ -143,7 +143,7 @@ fn a_session_has_1_to_64_workers(rt: HostRuntime) -> Result<(), Fail> {
     Ok(())
 }
 
-/// Whether the last share of a session gives the image back, after so many turns and without the others.
+/// Whether the last share of a session gives the image back, after this number of turns and without the others.
 fn is_given_back(alloc: Global, text: &[u8], turns: u64) -> Result<bool, Fault> {
     let mut shares = shares_of(alloc, text, 2)?;
     let Some(mut share) = shares.pop() else {

@@ -36,7 +36,7 @@ enum Way<F: Drop> {
         /// The length of a regular file.
         len: Option<u64>,
     },
-    /// As a new file beside this place, which that takes in the end.
+    /// As a temporary file in the same folder, renamed to this path at the end.
     Beside {
         place: PathBuf,
         /// The access of the file that was there.

@@ -211,7 +211,7 @@ where
 {
     let mut done = match ended(host, line, out) {
         Ok(done) => done,
-        Err(trouble) => return Err(failed(host, trouble, schedule)),
+        Err(trouble) => return Err(schedule.abandon_with(host, trouble)),
     };
     match schedule.finish(host) {
         Ok(schedule) => {
@@ -223,10 +223,4 @@ where
             Err(trouble)
         }
     }
-}
-
-/// Abandons the file that a command was writing when this error came, and returns the error.
-pub fn failed<H: Files>(host: &H, trouble: Trouble, out: Output<'_, H::File>) -> Trouble {
-    out.abandon(host);
-    trouble
 }

@@ -2,7 +2,7 @@
 ghost use Rattle.std.specs.Prelude.{◌≡◌, IfOk, string_bytes};
 
 use crate::file_target::FileTarget;
-use crate::files::{both_ended, ended, failed};
+use crate::files::{both_ended, ended};
 use crate::output::Output;
 use crate::system_file::SystemFile;
 use crate::work_done::WorkDone;
@@ -58,7 +58,7 @@ where
         self
     }
 
-    /// The same, for a file that will be this long, for who shows how far it is.
+    /// The same, for a file that will be this long. Progress is shown as a share of that.
     pub fn expecting(mut self, len: u64) -> Late<'a, 'h, H> {
         self.expected = len;
         self
@@ -125,7 +125,7 @@ where
         };
         match other.into_output() {
             Ok(other) => both_ended(host, line, output, other),
-            Err(trouble) => Err(failed(host, trouble, output)),
+            Err(trouble) => Err(output.abandon_with(host, trouble)),
         }
     }
 
@@ -137,8 +137,7 @@ where
         match self.begun.take() {
             Some(Ok(output)) => {
                 let trouble = trouble.if_failed(&output.file);
-                output.abandon(self.host);
-                trouble
+                output.abandon_with(self.host, trouble)
             }
             Some(Err(earlier)) => earlier,
             None => trouble,

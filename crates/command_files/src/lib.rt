@@ -1,7 +1,8 @@
 //! The files that commands write, and those that they open together.
 //!
 //! [`FileTarget::find`] looks at a file to write and changes nothing; [`FileTarget::begin_apart`] makes an [`Output`] of it: the
-//! emptied file, or a new file that takes its place in the end ([`Replacement`]). [`Late`] begins with the first byte.
+//! emptied file, or a temporary file that is renamed to its path at the end ([`Replacement`]). [`Late`] begins with the first
+//! byte.
 //! [`WorkDone`] is the outcome of a command before it prints.
 //!
 //! # What is proved
@@ -30,9 +31,9 @@ mod work_done;
 
 pub use file_target::FileTarget;
 pub use files::{
-    both_ended, different_target, ended, failed, image_and_out, input_and_target, must_differ,
-    not_regular, open_image, other_target, output_must_differ, reject_same_file, same_file,
-    target_beside, two_different_inputs, two_inputs,
+    both_ended, different_target, ended, image_and_out, input_and_target, must_differ, not_regular,
+    open_image, other_target, output_must_differ, reject_same_file, same_file, target_beside,
+    two_different_inputs, two_inputs,
 };
 pub use image_and_schedule::ImageAndSchedule;
 pub use late::Late;

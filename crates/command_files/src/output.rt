@@ -12,7 +12,7 @@ pub struct Output<'a, F: Drop> {
     pub file: Watched<'a, F>,
     /// Whether it is a regular file, and not standard output.
     pub may_have_holes: bool,
-    /// The place that a new file takes in the end.
+    /// What renames a temporary file to its path at the end.
     pub replacement: Option<Replacement<'a>>,
 }
 
@@ -40,8 +40,7 @@ impl<'a, F: OpenFile + Seek + Drop> Output<'a, F> {
     {
         if self.may_have_holes {
             if let Err(trouble) = self.file.cut() {
-                self.abandon(host);
-                return Err(trouble);
+                return Err(self.abandon_with(host, trouble));
             }
         }
         match self.replacement.take() {
@@ -63,5 +62,11 @@ impl<'a, F: OpenFile + Seek + Drop> Output<'a, F> {
         if let Some(replacement) = self.replacement.take() {
             replacement.remove(host);
         }
+    }
+
+    /// Gives up writing, as [`Output::abandon`] does, and returns the error that is the reason.
+    pub fn abandon_with<H: Files<File = F>>(self, host: &H, trouble: Trouble) -> Trouble {
+        self.abandon(host);
+        trouble
     }
 }

@@ -23,7 +23,7 @@ const NAMES_AHEAD: u32 = 16;
 /// How many of the first names may be lost to a call that takes a new file for a leftover before it is locked.
 const NAMES_TO_LOSE: u32 = 16;
 
-/// A new file beside its place: the file that it replaces, or where there is none yet.
+/// A temporary file in the same folder, renamed to this path at the end. There may be a file at the path, which it replaces.
 pub struct Replacement<'a> {
     word: FileWord<'a>,
     new: PathBuf,
@@ -55,7 +55,7 @@ struct New<F: Drop> {
     lock: FileLock,
 }
 
-// Where a value is let go this is one call, and a derived one takes it apart there, which the prover follows each time.
+// Written by hand, so that a drop is one call. A derived one takes the value apart at each drop, which the prover follows.
 impl Drop for Replacement<'_> {
     fn drop(self) {
         let Replacement {

@@ -20,7 +20,7 @@ pub trait SystemFile: OpenFile {
         false
     }
 
-    /// Says how long a file that is written will be, or 0 where that isn't known, for who shows how far it is.
+    /// Says how long a file that is written will be, or 0 if that isn't known. Progress is shown as a share of that.
     fn expect_len(&self, _len: u64) {}
 }
 
@@ -32,7 +32,7 @@ pub struct FileLock {
 }
 
 impl FileLock {
-    /// What stands for the lock on a file system that has none.
+    /// The value for a file system that has no locks.
     pub fn none() -> FileLock {
         FileLock { handle: None }
     }

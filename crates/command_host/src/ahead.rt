@@ -1,6 +1,5 @@
 //! The body of an image's file, read before the collector reads the image.
-ghost use Rattle.std.specs.Prelude.{◌≤◌, ◌<◌, None, IfSome};
-ghost use Rattle.image_streams.specs.Body.{body_words};
+ghost use Rattle.std.specs.Prelude.{◌≤◌, None};
 ghost use Rattle.image_streams.specs.Extents.{IsBodyOf};
 
 use command_support::{Watched, reshape};
@@ -35,8 +34,8 @@ impl Ahead {
             return None;
         }
         let len = watched.regular_len();
-        let extent = extent_of(&front_of(watched)?)?;
-        if extent.end()? > len {
+        let extent = extent_after_front(&front_of(watched)?)?;
+        if heap_words(extent) < LEAST_WORDS || extent.end()? > len {
             return None;
         }
         let store = FileStore::new(watched.file());
@@ -55,19 +54,9 @@ fn front_of<F: FileExt + Drop>(watched: &Watched<'_, F>) -> Option<[u8; FRONT_BY
     Some(front)
 }
 
-/// The extent of the body after this front, if it is the front of a large image.
-fn extent_of(front: &[u8; FRONT_BYTES]) -> Option<Extent>
-    ensures log { IfSome result (λ extent. extent.size.region_log ≤ 20) }
-    ensures few { IfSome result (λ extent. body_words extent.size ≤ 137438953472) }
+/// The number of words of the heap whose body lies in this extent.
+pub fn heap_words(extent: Extent) -> u64
+    requires { extent.size.region_log ≤ 20 }
 {
-    if heap_words(front)? < LEAST_WORDS {
-        return None;
-    }
-    extent_after_front(front)
-}
-
-/// The number of words of the heap of an image with this front, if an image has such a front.
-pub fn heap_words(front: &[u8; FRONT_BYTES]) -> Option<u64> {
-    let extent = extent_after_front(front)?;
-    Some((extent.size.regions as u64) << extent.size.region_log)
+    (extent.size.regions as u64) << extent.size.region_log
 }

@@ -56,7 +56,8 @@ impl<'s, R> Host<'s, R> {
 }
 
 impl<'s, R: Files> Host<'s, R> {
-    /// Whether it is the file of the standard stream at this path. None if that can't be told, as where `/proc` isn't mounted.
+    /// Whether it is the file of the standard stream at this path. None if that isn't known, for example because `/proc` isn't
+    /// mounted.
     fn is_stream(&self, file: &R::File, path: &str) -> Option<bool> {
         let opened = FileId::of(&file.metadata().ok()?);
         let standard = FileId::of(&self.rt.metadata(path).ok()?);

@@ -1,11 +1,13 @@
 use crate::ahead::{Ahead, heap_words};
 use command_support::Watched;
-use heap_image::{Body, BodySize, Failed, Intake};
+use command_times::{Phase, PhaseTimes};
+use heap_image::{Body, BodySize, Failed, Intake, extent_after_front};
 use std::alloc::Global;
 use std::fs::OpenFile;
 use std::io::{Read, Seek};
 use std::os::unix::fs::FileExt;
 use std::thread::Threads;
+use std::time::Clock;
 
 /// The file of an image. Its bytes are unknown to contracts.
 ///
@@ -13,33 +15,42 @@ use std::thread::Threads;
 /// other file, such as a pipe, is read in order. So is a whole regular file of which a thread can't read its part: what
 /// is wrong is then found as for a pipe.
 #[derive(Drop)]
-pub struct ImageFile<'a, F: Drop> {
+pub struct ImageFile<'a, 't, H, F: Drop> {
     watched: Watched<'a, F>,
     failed: bool,
     ahead: Option<Ahead>,
+    times: &'t PhaseTimes<'t, H>,
+    /// The phase that reads it, which ends when the last bytes have come.
+    phase: Phase,
 }
 
-impl<'a, F: Drop> ImageFile<'a, F> {
+impl<'a, 't, H: Clock, F: Drop> ImageFile<'a, 't, H, F> {
     /// Reads the body ahead by at most `readers` threads, if it is a large one in a regular file.
-    pub fn read_ahead<H: AllocGlobal + Threads + Sync>(
+    pub fn read_ahead(
         host: &H,
         watched: Watched<'a, F>,
         readers: usize,
-    ) -> ImageFile<'a, F>
+        times: &'t PhaseTimes<'t, H>,
+        phase: Phase,
+    ) -> ImageFile<'a, 't, H, F>
     where
+        H: AllocGlobal + Threads + Sync,
         F: OpenFile + FileExt + Sync,
     {
         let ahead = Ahead::read(host.alloc(), &watched, readers, host);
+        times.end(phase);
         ImageFile {
             watched,
             failed: false,
             ahead,
+            times,
+            phase,
         }
     }
 
     /// The number of words of the heap, if the image that was read so far has a sound front.
     pub fn heap_words(&self) -> Option<u64> {
-        heap_words(&self.watched.front())
+        Some(heap_words(extent_after_front(&self.watched.front())?))
     }
 
     /// The file.
@@ -49,7 +60,7 @@ impl<'a, F: Drop> ImageFile<'a, F> {
     }
 }
 
-impl<F: Read + Seek + Drop> Intake for ImageFile<'_, F> {
+impl<H: Clock, F: Read + Seek + Drop> Intake for ImageFile<'_, '_, H, F> {
     ghost use Rattle.std.specs.Prelude.{None};
 
     ghost left = { λ _. None };
@@ -61,7 +72,12 @@ impl<F: Read + Seek + Drop> Intake for ImageFile<'_, F> {
             return Err(Failed);
         }
         match self.watched.read(buffer) {
-            Ok(n) => Ok(n),
+            Ok(n) => {
+                if n > 0 {
+                    self.times.end(self.phase);
+                }
+                Ok(n)
+            }
             Err(_) => {
                 self.failed = true;
                 Err(Failed)

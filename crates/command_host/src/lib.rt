@@ -6,7 +6,7 @@
 //!
 //! # What is proved
 //!
-//! - An image's file never gives more bytes than asked for, and after a failed read it gives none.
+//! - An image's file never gives more bytes than requested, and after a failed read it gives none.
 //! - Nothing here reads out of bounds, overflows or stops the process, and every loop ends.
 //!
 //! # What is only tested

@@ -36,7 +36,7 @@ abbrev pub hint_of : Content → List ℕ → Option Hint
 hint_of wanted [] = Some Empty
 hint_of wanted (byte ∷ rest) = hint_of_found wanted (content_of (byte ∷ rest))
 
--- the hint about a dump with so many words, of which so many are the most, and with so many words of reachable objects
+-- the hint about a dump of `words` words, `live_words` of them of reachable objects, where an image may have `most`
 abbrev pub hint_of_words : ℕ → ℕ → ℕ → Hint
 hint_of_words words most live_words = if nat_lt most live_words then TooLarge live_words most else LiveOnly words most live_words
 

@@ -33,7 +33,7 @@ abbrev pub amount_text : ℕ → Option ℕ → List ℕ
 amount_text done whole =
     decimal (tenths_of done whole / 10) ++ (codes "." ++ (decimal (tenths_of done whole % 10) ++ (codes " " ++ unit_of whole)))
 
--- how many bytes were done in a second, rounded down, after so many milliseconds; unknown where that is none
+-- bytes a second after `took` milliseconds, rounded down; unknown if that is 0
 abbrev pub rate_of : ℕ → ℕ → Option ℕ
 rate_of done took = if took == 0 || done * 1000 / max took 1 == 0 then None else Some (done * 1000 / max took 1)
 

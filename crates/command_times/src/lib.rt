@@ -1,7 +1,8 @@
 //! How long commands take, and how far they are.
 //!
-//! [`Stats`] has what `--stats` prints: times by a [`Stopwatch`] and by devices that note when bytes go through them
-//! ([`TimedIntake`], [`TimedOutlet`]). A [`Meter`] has the line that `--progress` shows, of what a [`Gauge`] counts.
+//! [`Stats`] has what `--stats` prints, of [`PhaseTimes`]: the phases of a collection and of a comparison say themselves when
+//! they end. An import has devices that note when bytes go through them ([`TimedIntake`], [`TimedOutlet`]). A [`Meter`] has the
+//! line that `--progress` shows, of what a [`Gauge`] counts.
 //!
 //! # What is proved
 //!
@@ -26,6 +27,7 @@ pub use stats::Stats;
 pub use stats::laps::Laps;
 pub use stats::live_share::LiveShare;
 pub use stats::moved::Moved;
+pub use stats::phase_times::PhaseTimes;
 pub use stats::stopwatch::Stopwatch;
 pub use stats::tenths::Tenths;
 pub use stats::timed_intake::TimedIntake;

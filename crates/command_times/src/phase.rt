@@ -21,6 +21,22 @@ pub enum Phase {
     Compare,
 }
 
+/// All phases, in the order in which `--stats` prints them.
+pub(crate) const PHASES: [Phase; 12] = [
+    Phase::Read,
+    Phase::Check,
+    Phase::Prepare,
+    Phase::Fills,
+    Phase::CleanUp,
+    Phase::Write,
+    Phase::Schedule,
+    Phase::ReadBefore,
+    Phase::CheckBefore,
+    Phase::ReadAfter,
+    Phase::CheckAfter,
+    Phase::Compare,
+];
+
 impl fmt::Display for Phase {
     ghost use Rattle.std.specs.Prelude.{Some};
     ghost use Rattle.command_times.specs.Transfer.{phase_text};

@@ -4,6 +4,7 @@ pub(crate) mod laps;
 pub(crate) mod live_share;
 pub(crate) mod moved;
 mod peak_memory;
+pub(crate) mod phase_times;
 pub(crate) mod stopwatch;
 pub(crate) mod tenths;
 pub(crate) mod timed_intake;
@@ -13,6 +14,7 @@ use laps::Laps;
 use live_share::LiveShare;
 use moved::Moved;
 use peak_memory::peak_kib;
+use phase_times::PhaseTimes;
 use std::io;
 use std::io::Write;
 use std::rt::Files;
@@ -37,10 +39,10 @@ pub struct Stats {
 
 impl Stats {
     /// The timings of a collection.
-    pub fn of_collection(watch: Stopwatch, laps: Laps, moved: Moved, workers: u32) -> Stats {
+    pub fn of_collection<H: Clock>(times: &PhaseTimes<'_, H>, moved: Moved, workers: u32) -> Stats {
         Stats {
-            watch,
-            laps,
+            watch: times.watch(),
+            laps: times.laps(),
             moved: Some(moved),
             share: None,
             workers: Some(workers),
@@ -48,10 +50,10 @@ impl Stats {
     }
 
     /// The timings of a comparison.
-    pub fn of_comparison(watch: Stopwatch, laps: Laps) -> Stats {
+    pub fn of_comparison<H: Clock>(times: &PhaseTimes<'_, H>) -> Stats {
         Stats {
-            watch,
-            laps,
+            watch: times.watch(),
+            laps: times.laps(),
             moved: None,
             share: None,
             workers: None,
@@ -77,7 +79,7 @@ impl Stats {
     ) -> io::Result<()> {
         self.laps.print(self.watch.elapsed(host), err)?;
         if let Some(moved) = &self.moved {
-            moved.print(err)?;
+            moved.print(self.laps.in_memory(), err)?;
         }
         if let Some(share) = &self.share {
             share.print(err)?;

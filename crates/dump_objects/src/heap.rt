@@ -1,11 +1,8 @@
 //! The words of an image under construction.
-ghost use Rattle.std.specs.Prelude.{◌<◌, ◌≤◌, ◌^◌, ◌≢◌};
+ghost use Rattle.std.specs.Prelude.{◌≡◌, ◌<◌, ◌≤◌, ◌^◌, ◌≢◌};
 ghost use Rattle.object_heap.specs.HeapImage.{AreBlocks};
 
 pub(crate) mod arrangement;
-pub(crate) mod forwarding;
-mod marking;
-pub(crate) mod survivors;
 
 use dump_records::ImportError;
 use heap_image::regions_by_log;
@@ -53,7 +50,7 @@ impl UnsealedHeap {
 
     /// The word at an address, or 0 outside the heap.
     pub fn word(&self, address: u64) -> u64 {
-        let index = (address >> self.region_log) as usize;
+        let index = self.region_of(address);
         if index >= self.regions.len() {
             return 0;
         }
@@ -62,11 +59,53 @@ impl UnsealedHeap {
 
     /// Sets the word at an address. An address outside the heap is ignored.
     pub fn put(&mut self, address: u64, word: u64) {
-        let index = (address >> self.region_log) as usize;
+        let index = self.region_of(address);
         let place = self.place(address);
         if index < self.regions.len() {
             self.regions[index].set(place, word);
         }
+    }
+
+    /// Copies `count` words of another heap from address `from` on to address `to` on. Addresses outside the heaps are ignored.
+    pub fn copy_from(&mut self, to: u64, other: &UnsealedHeap, from: u64, count: u64) {
+        let mut done = 0u64;
+        while done < count {
+            let left = count - done;
+            let to = to.saturating_add(done);
+            let copied = self.copy_within_regions(to, other, from.saturating_add(done), left);
+            if copied == 0 {
+                return;
+            }
+            done += copied;
+        }
+    }
+
+    /// Copies words as [`copy_from`](UnsealedHeap::copy_from) does, up to the end of a region of either heap. Returns their
+    /// number, which is 0 outside the heaps.
+    fn copy_within_regions(&mut self, to: u64, other: &UnsealedHeap, from: u64, count: u64) -> u64
+        ensures { result ≤ count }
+    {
+        let (target, source) = (self.region_of(to), other.region_of(from));
+        if target >= self.regions.len() || source >= other.regions.len() {
+            return 0;
+        }
+        let (at, start) = (self.place(to), other.place(from));
+        let rest = (self.region_words() - at).min(other.region_words() - start);
+        let count = count.min(rest as u64);
+        self.regions[target].copy_from(at, &other.regions[source], start, count as usize);
+        count
+    }
+
+    /// The number of words of a region.
+    fn region_words(&self) -> usize
+        ensures { result ≡ 2 ^ self.now.region_log }
+    {
+        1 << self.region_log
+    }
+
+    /// The index of the region of an address.
+    fn region_of(&self, address: u64) -> usize {
+        (address >> self.region_log) as usize
     }
 
     /// The index of an address in its region.

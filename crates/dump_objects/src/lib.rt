@@ -11,13 +11,13 @@
 
 mod heap;
 mod inventory;
+mod live_only;
 
 pub use heap::arrangement::Arrangement;
-pub use heap::forwarding::{copy_survivors, new_address};
-pub use heap::survivors::Survivors;
 pub use heap::{UnsealedHeap, first_word, size};
 pub use inventory::Inventory;
 pub use inventory::class_number::{CLASS_OBJECTS, UNKNOWN_ARRAYS};
 pub use inventory::classes::{Class, Classes};
 pub use inventory::name_ids::{NameId, NameIds};
 pub use inventory::objects::{Object, Objects, Place};
+pub use live_only::survivors::Survivors;

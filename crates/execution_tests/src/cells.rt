@@ -7,7 +7,7 @@ use crate::setups::{
     base_of_four, cells_and_plan, end_fault, opening, read_and_write_faults, read_fault, right,
     write_fault,
 };
-use heap_image::{Fault, decode_by_threads};
+use heap_image::{Fault, all_processors, decode};
 use heap_samples::{BASE_LIVE, BASE_WORDS, DEAD, Settings, rooted_text};
 use region_cells::{Cells, Parts, Target};
 use std::alloc::Global;
@@ -216,7 +216,7 @@ fn a_heap_without_live_objects_stays_unchanged(rt: HostRuntime) -> Result<(), Fa
 
 /// The parts of the image with this text after it was put into cells.
 fn parts_of<T: Threads + Sync>(alloc: Global, text: &[u8], threads: &T) -> Result<Parts, Fault> {
-    let image = decode_by_threads(alloc, text, threads)?;
+    let image = decode(alloc, text, &all_processors(threads))?;
     let (cells, _plan) = cells_and_plan(alloc, image, threads)?;
     cells.into_regions()
 }

@@ -16,6 +16,7 @@ use std::test::Fail;
 use std::thread::Threads;
 use summary::Survey;
 use summary::laws::region_data::regions_to_fill;
+use thread_row::{Alone, Many};
 
 /// A heap to fill, with a board of its moves.
 pub struct Heap {
@@ -70,7 +71,7 @@ pub fn survey_and_cells<T: Threads + Sync>(
     ensures survey { IfOk result (λ made. made.0 ≡ image) }
     ensures cells { IfOk result (λ made. made.1 ≡ image) }
 {
-    let survey = Survey::of(alloc, &image, threads)?;
+    let survey = Survey::of(alloc, &image, &Many { threads, most: 2 })?;
     let cells = cells_of(alloc, image, survey.plan())?;
     Ok((survey, cells))
 }
@@ -177,7 +178,7 @@ fn moved_and_compacted_cells(
 {
     let mut parts = cells.into_regions()?;
     let moved = joined(alloc, parts.regions.as_slice())?;
-    update_deferred(parts.regions.as_mut_slice(), survey);
+    update_deferred(parts.regions.as_mut_slice(), survey, &Alone);
     clear_above(parts.regions.as_mut_slice(), survey.plan().new_top());
     Ok((moved, joined(alloc, parts.regions.as_slice())?))
 }

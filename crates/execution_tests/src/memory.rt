@@ -3,7 +3,7 @@ ghost use Rattle.std.specs.Prelude.{◌≡◌};
 
 use crate::checks::holds;
 use crate::setups::plan_of;
-use heap_image::{Fault, Image, decode_by_threads, encode};
+use heap_image::{Fault, Image, all_processors, decode, encode};
 use heap_samples::Base;
 use region_cells::Cells;
 use std::alloc::Global;
@@ -23,7 +23,7 @@ fn are_made_of_text(
     text: &[u8],
     threads: &(impl Threads + Sync),
 ) -> Result<bool, Fault> {
-    let image = decode_by_threads(alloc, text, threads)?;
+    let image = decode(alloc, text, &all_processors(threads))?;
     let plan = plan_of(alloc, &image, threads)?;
     match image_back(alloc, image, &plan) {
         None => Ok(true),

@@ -5,7 +5,7 @@ ghost use Rattle.claim_board.specs.Boards.{identity, board_of};
 use crate::checks::{equal, holds};
 use crate::heaps::{Heap, fill_below, heap_of, joined};
 use claim_board::Pass;
-use fill::{clear_above, update_deferred_by_workers};
+use fill::{clear_above, update_deferred};
 use heap_image::{Fault, Image};
 use heap_samples::{DEAD, Settings, image_of};
 use region_cells::Cells;
@@ -14,6 +14,7 @@ use std::sync::Wait;
 use std::test::Fail;
 use std::thread::Threads;
 use summary::Survey;
+use thread_row::Many;
 
 /// The number of regions of 8 words in a heap: enough for several threads.
 const REGIONS: u64 = 4_096;
@@ -104,7 +105,11 @@ fn updated_cells<R: Threads + Sync>(
     requires { cells ≡ survey.now }
 {
     let mut parts = cells.into_regions()?;
-    update_deferred_by_workers(parts.regions.as_mut_slice(), survey, workers, rt);
+    let many = Many {
+        threads: rt,
+        most: workers,
+    };
+    update_deferred(parts.regions.as_mut_slice(), survey, &many);
     clear_above(parts.regions.as_mut_slice(), survey.plan().new_top());
     Ok(joined(alloc, parts.regions.as_slice())?)
 }

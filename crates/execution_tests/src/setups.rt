@@ -16,6 +16,7 @@ use std::sync::Wait;
 use std::test::Fail;
 use std::thread::Threads;
 use summary::Plan;
+use thread_row::Many;
 
 /// The base heap with this allowance and these live objects, which has four regions of 8 words.
 pub fn base_of_four(alloc: Global, allowance: u64, live: &[u64]) -> Result<Image, Fail>
@@ -34,8 +35,9 @@ pub fn base_of_four(alloc: Global, allowance: u64, live: &[u64]) -> Result<Image
 pub fn plan_of<T: Threads + Sync>(alloc: Global, image: &Image, threads: &T) -> Result<Plan, Fault>
     ensures { IfOk result (λ plan. plan ≡ image.now) }
 {
-    let marks = Marks::of(alloc, image)?;
-    Plan::of(alloc, image, &marks, threads)
+    let many = Many { threads, most: 2 };
+    let marks = Marks::of(alloc, image, &many)?;
+    Plan::of(alloc, image, &marks, &many)
 }
 
 /// The cells of an image. `plan` is its plan.

@@ -4,3 +4,4 @@ pub(crate) mod clear;
 pub(crate) mod deferred;
 mod deferred_parts;
 mod heap;
+pub(crate) mod updater;

@@ -7,20 +7,22 @@
 //! redirected in place. A region of the prefix keeps its live words and gets fillers in its gaps.
 //!
 //! An object whose new words cross the end of the region in which they begin is deferred: it is moved with its old
-//! references. [`update_deferred`] redirects them once all regions are filled, [`update_deferred_by_workers`] does so
-//! with several threads, and [`clear_above`] zeroes the words from the new top up.
+//! references. [`update_deferred`] redirects them once all regions are filled, and [`clear_above`] zeroes the words from
+//! the new top up. An [`Updater`] is who redirects them: the caller [`Alone`](thread_row::Alone), or
+//! [`Many`](thread_row::Many) threads.
 //!
 //! **Proved**, for every valid image: a region that is filled has its moved words, word for word; its worker has made
 //! the drains of its other sources and its completion, and no other call, and has reported exactly the sources whose
-//! drain returned `Last`; [`update_deferred`] or [`update_deferred_by_workers`], followed by [`clear_above`], turns the
-//! moved words into the compaction's; no call reads or writes outside its regions, and each returns, if the desk and
-//! the cells do. **Only tested**: that a fill succeeds, how many words are reported before each drain, and into how
-//! many parts the update is split. **Not stated**: how fast a call is.
+//! drain returned `Last`; [`update_deferred`], followed by [`clear_above`], turns the moved words into the compaction's;
+//! no call reads or writes outside its regions, and each returns, if the desk and the cells do. **Only tested**: that a
+//! fill succeeds, how many words are reported before each drain, and into how many parts the update is split. **Not
+//! stated**: how fast a call is.
 #![tactic(auto)]
 
 mod cleanup;
 mod region;
 
 pub use cleanup::clear::clear_above;
-pub use cleanup::deferred::{update_deferred, update_deferred_by_workers};
+pub use cleanup::deferred::update_deferred;
+pub use cleanup::updater::Updater;
 pub use region::filling::fill_region;

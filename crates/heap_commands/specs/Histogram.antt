@@ -12,11 +12,11 @@ use Rattle.heap_dump.specs.declared.listing.ListedObject.{ListedObject}
 use Rattle.heap_dump.specs.declared.totals.ClassTotals.{ClassTotals}
 use Rattle.heap_dump.specs.declared.totals.Totals.{Totals}
 
--- a number, right-aligned in so many columns
+-- a number, right-aligned in `width` columns
 abbrev pub in_columns : ℕ → ℕ → List ℕ
 in_columns width n = styled_decimal (format_spec 32 3 0 width 18446744073709551615) n
 
--- the bytes of so many words
+-- words in bytes
 abbrev pub bytes_of : ℕ → ℕ
 bytes_of words = held (words * 8)
 
@@ -70,7 +70,7 @@ classes_text names classes =
 abbrev pub sums_text : Totals → DeadWords → ImportFigures → List ℕ
 sums_text totals dead figures = codes "total" ++ (columns totals ++ (codes "\n" ++ (dead_text dead ++ notes_text figures)))
 
--- the histogram of the objects of an image with these figures, with at most so many classes
+-- the histogram of the objects of an image with these figures, with at most `most` classes
 pub record IsHistogram (image : HeapImage) (figures : ImportFigures) (most : ℕ) (shown : List ℕ) : Type 0 where
   pub objects : List ListedObject
   pub listed : AreObjectsOf image objects

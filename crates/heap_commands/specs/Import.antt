@@ -4,8 +4,9 @@ use Rattle.object_heap.specs.HeapImage.{HeapImage, IsValid}
 use Rattle.heap_image.specs.ImageText.{text}
 use Rattle.object_heap.specs.Version.{has_roots}
 use Rattle.heap_dump.specs.ImportFigures.{AreFiguresOf, figures_text}
-use Rattle.heap_dump.specs.Requested.{HasChosenVersion}
+use Rattle.heap_dump.specs.Requested.{IsRequested}
 use Rattle.heap_dump.specs.declared.figures.ImportFigures.{ImportFigures}
+use Rattle.heap_dump.specs.declared.heap.draft.Imported.{Imported}
 use Rattle.heap_dump.specs.declared.options.Options.{Options}
 use Rattle.command_support.specs.Command.{Command}
 use Rattle.heap_commands.specs.Histogram.{IsHistogram}
@@ -18,16 +19,11 @@ pub record IsLineOf (image : HeapImage) (shown : List ℕ) : Type 0 where
   pub counted : AreFiguresOf image figures
   pub printed : shown ≡ figures_text figures ++ codes "\n"
 
--- the text of a valid image with roots was written, of the requested version and allowance, and its figures are printed
-abbrev pub IsImport : Options → Option (List ℕ) → Option (List ℕ) → List ℕ → Type 0
-IsImport options took took' shown = (image : HeapImage) × IsLineOf image shown
-    × (image.allowance ≡ options.allowance) × HasChosenVersion options image × Appends took took' (text image)
-
 -- the line with the figures of some valid image with roots
 abbrev pub IsImportLine : List ℕ → Type 0
 IsImportLine shown = (image : HeapImage) × IsLineOf image shown
 
--- what is printed after the line: nothing, or a histogram with at most so many classes
+-- what is printed after the line: nothing, or a histogram with at most `most` classes
 abbrev pub IsRest : HeapImage → ImportFigures → Option ℕ → List ℕ → Type 0
 IsRest image figures None rest = rest ≡ []
 IsRest image figures (Some most) rest = IsHistogram image figures most rest
@@ -40,10 +36,10 @@ pub record IsTextOf (image : HeapImage) (most : Option ℕ) (shown : List ℕ) :
   pub ends : IsRest image begins.figures most rest
   pub printed : shown ≡ line ++ rest
 
--- the text of a valid image with roots was written, of the requested version and allowance, and this is printed of it
-abbrev pub IsListedImport : Options → Option ℕ → Option (List ℕ) → Option (List ℕ) → List ℕ → Type 0
-IsListedImport options most took took' shown = (image : HeapImage) × IsTextOf image most shown
-    × (image.allowance ≡ options.allowance) × HasChosenVersion options image × Appends took took' (text image)
+-- the text of an image as these options request it was written, and this is printed of it
+abbrev pub IsImport : Options → Option ℕ → Option (List ℕ) → Option (List ℕ) → List ℕ → Type 0
+IsImport options most took took' shown = (imported : Imported) × IsRequested options imported
+    × IsTextOf imported.image most shown × Appends took took' (text imported.image)
 
 -- Of some valid image: without a histogram exactly the line with its figures, and with one that line and the histogram.
 abbrev pub IsImportText : Option ℕ → List ℕ → Type 0

@@ -8,7 +8,7 @@ use Rattle.heap_commands.specs.Histogram.{bytes_of}
 abbrev pub state_of : Bool → List ℕ
 state_of is_live = if is_live then codes "live" else codes "dead"
 
--- so many lines, which aren't long
+-- `count` lines, which aren't long
 pub record HasRows (text : List ℕ) (count : ℕ) : Type 0 where
   pub rows : newlines text ≡ count
   pub short : length text ≤ 2068 * count

@@ -1,11 +1,12 @@
-ghost use Rattle.std.specs.Prelude.{◌≡◌, ◌≢◌, ◌⊎◌, ◌++◌, codes, true, None, ℕ, List, IfOk, IfErr, OnOk, OnErr, IsTrue, string_bytes};
+ghost use Rattle.std.specs.Prelude.{◌≡◌, ◌≢◌, ◌⊎◌, ◌++◌, codes, true, IfOk, IfErr, OnOk, OnErr, IsTrue, string_bytes};
 ghost use Rattle.std.specs.Io.KnownBytes.{IsAtEnd};
+ghost use Rattle.std.specs.Option.{ForSome};
 ghost use Rattle.command_line.specs.Request.{rows_in};
 ghost use Rattle.object_heap.specs.HeapImage.{IsValid};
 ghost use Rattle.object_heap.specs.Version.{has_roots};
 ghost use Rattle.heap_dump.specs.ImportFigures.{AreFiguresOf, figures_text};
 ghost use Rattle.heap_dump.specs.Listing.{AreObjectsOf};
-ghost use Rattle.heap_commands.specs.Import.{IsImport, IsImportText, IsImported, IsListedImport, IsTextOf};
+ghost use Rattle.heap_commands.specs.Import.{IsImport, IsImportText, IsImported, IsTextOf};
 ghost use Rattle.command_support.specs.Failure.{failed_device};
 
 pub mod histogram;
@@ -19,7 +20,7 @@ use command_files::{Late, SystemFile, WorkDone};
 use command_line::Import;
 use command_support::{Failure, Trouble, Watched};
 use command_times::{Laps, LiveShare, Phase, Stats, Stopwatch, TimedIntake, TimedOutlet};
-use heap_dump::{ImportFigures, Imported, ListedImport, Options, import, import_listed};
+use heap_dump::{ImportFigures, ListedImport, Options, import, import_listed};
 use heap_image::{FromRead, Intake, Outlet, ToWrite, write_image_buffered};
 use histogram::push_histogram;
 use import_ending::{finished, unfinished};
@@ -119,7 +120,7 @@ fn import_timed<R: AllocGlobal + Clock, I: Read + Drop, W: Write + Drop>(
     let mut first = TimedIntake::new(rt, watch, FromRead::new(first));
     let mut second = TimedIntake::new(rt, watch, FromRead::new(second));
     let mut output = TimedOutlet::new(rt, watch, ToWrite::new(image));
-    let made = import_as_wished(rt.alloc(), &mut first, &mut second, &mut output, wish)?;
+    let made = import_into(rt.alloc(), &mut first, &mut second, &mut output, wish)?;
     let stats = Stats::of_import(watch, laps_of(&second, &output), made.share);
     Ok((made, stats))
 }
@@ -164,37 +165,55 @@ impl ImportWish {
 
 /// What was made of a dump whose image is written.
 #[derive(Drop)]
-pub(crate) struct ImportMade {
+pub struct ImportMade {
     /// The text for standard output.
-    pub(crate) text: String,
+    pub text: String,
     /// The objects of the image, if they are wanted, and room for their lines.
-    pub(crate) listed: Option<(ListedImport, String)>,
-    pub(crate) share: LiveShare,
+    pub listed: Option<(ListedImport, String)>,
+    /// How much of the image is live.
+    pub share: LiveShare,
 }
 
-/// Makes an image of the dump that both devices give, and writes it.
-fn import_as_wished<R: Intake, O: Outlet>(
+/// Makes an image of the dump that both devices give, and writes it. Returns the text for standard output and, if they are
+/// wanted, the objects of the image.
+///
+/// Both devices are read to their ends before a byte is written, and nothing is allocated once one is. Fault 13 says
+/// that a device failed, fault 11 that memory ran out, and any other failure is that of `heap_dump::import`.
+pub fn import_into<R: Intake, O: Outlet>(
     alloc: Global,
     first: &mut R,
     second: &mut R,
     output: &mut O,
     wish: ImportWish,
 ) -> Result<ImportMade, Failure>
-    ensures { IfOk result (λ made. IsImportText wish.rows (string_bytes made.text)) }
+    ensures image { IfOk result (λ made. IsImport wish.options wish.rows
+        (O.took output.old) (O.took output.new) (string_bytes made.text)) }
+    ensures objects { IfOk result (λ made. ForSome made.listed
+        (λ listed. AreObjectsOf listed.0.imported.image listed.0.objects.items)) }
+    ensures first_end { OnOk result (IsAtEnd (R.left first.new)) }
+    ensures second_end { OnOk result (IsAtEnd (R.left second.new)) }
+    // Only the device for the image stops it once it writes.
+    ensures nothing_yet { IfErr result (λ failure. failure ≢ failed_device → output.new ≡ output.old) }
+    ensures written { OnErr result ((output.new ≡ output.old) ⊎ IsTrue (O.has_failed output.new)) }
+    ensures device { result ≡ Err failed_device → IsTrue (R.has_failed first.new)
+        ⊎ IsTrue (R.has_failed second.new) ⊎ IsTrue (O.has_failed output.new) }
 {
     match wish.rows {
         None if !wish.lists_objects => {
-            let line = import_into(alloc, first, second, output, wish.options)?;
+            let imported = import(alloc, first, second, wish.options)?;
+            let text = line_of(alloc, imported.figures)?;
+            write_image_buffered(alloc, &imported.image, output)?;
             Ok(ImportMade {
-                text: line.text,
+                text,
                 listed: None,
-                share: line.share,
+                share: live_share(&imported.image),
             })
         }
         _ => {
-            let ListedText { text, import, room } = import_listed_into(
-                alloc, first, second, output, wish,
-            )?;
+            let import = import_listed(alloc, first, second, wish.options)?;
+            let text = text_of(alloc, &import, wish.rows)?;
+            let room = list_room(alloc, &import.names)?;
+            write_image_buffered(alloc, &import.imported.image, output)?;
             let share = live_share(&import.imported.image);
             Ok(ImportMade {
                 text,
@@ -205,91 +224,16 @@ fn import_as_wished<R: Intake, O: Outlet>(
     }
 }
 
-/// The line with the figures of an import, and how much of its image is live.
-#[derive(Drop)]
-pub struct ImportLine {
-    /// The line for standard output.
-    pub text: String,
-    pub share: LiveShare,
-}
-
-/// Makes an image of the dump that both devices give, and writes it. Returns the line for standard output, with the
-/// figures of the image.
-///
-/// Both devices are read to their ends before a byte is written, and nothing is allocated once one is. Fault 13 says
-/// that a device failed, fault 11 that memory ran out, and any other failure is that of `heap_dump::import`.
-pub fn import_into<R: Intake, O: Outlet>(
-    alloc: Global,
-    first: &mut R,
-    second: &mut R,
-    output: &mut O,
-    options: Options,
-) -> Result<ImportLine, Failure>
-    ensures image { IfOk result (λ line. IsImport options
-        (O.took output.old) (O.took output.new) (string_bytes line.text)) }
-    ensures first_end { OnOk result (IsAtEnd (R.left first.new)) }
-    ensures second_end { OnOk result (IsAtEnd (R.left second.new)) }
-    // Only the device for the image stops it once it writes.
-    ensures nothing_yet { IfErr result (λ failure. failure ≢ failed_device → output.new ≡ output.old) }
-    ensures written { OnErr result ((output.new ≡ output.old) ⊎ IsTrue (O.has_failed output.new)) }
-    ensures device { result ≡ Err failed_device → IsTrue (R.has_failed first.new)
-        ⊎ IsTrue (R.has_failed second.new) ⊎ IsTrue (O.has_failed output.new) }
+/// The line with the figures of an import.
+fn line_of(alloc: Global, figures: ImportFigures) -> Result<String, AllocError>
+    ensures { IfOk result (λ line. string_bytes line ≡ figures_text figures ++ codes "\n") }
 {
     let mut line = String::with_capacity(alloc, LINE_ROOM)?;
-    let Imported { image, figures } = import(alloc, first, second, options)?;
-    push_import_line(figures, &mut line)?;
-    write_image_buffered(alloc, &image, output)?;
-    Ok(ImportLine {
-        text: line,
-        share: live_share(&image),
-    })
+    writeln!(line, "{figures}")?;
+    Ok(line)
 }
 
-/// Appends the figures of an imported image to a line.
-fn push_import_line(figures: ImportFigures, line: &mut String) -> Result<(), AllocError>
-    ensures { OnOk result (string_bytes line.new
-        ≡ string_bytes line.old ++ (figures_text figures ++ codes "\n")) }
-{
-    writeln!(line, "{figures}")
-}
-
-/// An imported heap, and the text for standard output.
-#[derive(Drop)]
-pub struct ListedText {
-    pub text: String,
-    pub import: ListedImport,
-    /// Room for a list of its objects.
-    pub room: String,
-}
-
-/// Makes an image of the dump that both devices give, and writes it, as [`import_into`] does. Returns the text for
-/// standard output, with a histogram if it is wanted, and the objects of the image.
-pub fn import_listed_into<R: Intake, O: Outlet>(
-    alloc: Global,
-    first: &mut R,
-    second: &mut R,
-    output: &mut O,
-    wish: ImportWish,
-) -> Result<ListedText, Failure>
-    ensures image { IfOk result (λ made. IsListedImport wish.options wish.rows
-        (O.took output.old) (O.took output.new) (string_bytes made.text)) }
-    ensures objects { IfOk result (λ made. AreObjectsOf made.import.imported.image made.import.objects.items) }
-    ensures first_end { OnOk result (IsAtEnd (R.left first.new)) }
-    ensures second_end { OnOk result (IsAtEnd (R.left second.new)) }
-    // Only the device for the image stops it once it writes.
-    ensures nothing_yet { IfErr result (λ failure. failure ≢ failed_device → output.new ≡ output.old) }
-    ensures written { OnErr result ((output.new ≡ output.old) ⊎ IsTrue (O.has_failed output.new)) }
-    ensures device { result ≡ Err failed_device → IsTrue (R.has_failed first.new)
-        ⊎ IsTrue (R.has_failed second.new) ⊎ IsTrue (O.has_failed output.new) }
-{
-    let import = import_listed(alloc, first, second, wish.options)?;
-    let text = text_of(alloc, &import, wish.rows)?;
-    let room = list_room(alloc, &import.names)?;
-    write_image_buffered(alloc, &import.imported.image, output)?;
-    Ok(ListedText { text, import, room })
-}
-
-/// The line with the figures of an import, and a histogram with at most so many classes if one is wanted.
+/// The line with the figures of an import, and a histogram with at most `rows` classes if one is wanted.
 fn text_of(alloc: Global, import: &ListedImport, rows: Option<u32>) -> Result<String, AllocError>
     requires valid { IsValid import.now.imported.image }
     requires rooted { has_roots import.now.imported.image.version ≡ true }
@@ -297,8 +241,7 @@ fn text_of(alloc: Global, import: &ListedImport, rows: Option<u32>) -> Result<St
     requires figures { AreFiguresOf import.now.imported.image import.now.imported.figures }
     ensures { IfOk result (λ text. IsTextOf import.now.imported.image rows (string_bytes text)) }
 {
-    let mut text = String::with_capacity(alloc, LINE_ROOM)?;
-    push_import_line(import.imported.figures, &mut text)?;
+    let mut text = line_of(alloc, import.imported.figures)?;
     let Some(most) = rows else {
         return Ok(text);
     };

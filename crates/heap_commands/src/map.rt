@@ -9,7 +9,7 @@ use command_files::{FileTarget, Late, SystemFile, WorkDone, different_target, op
 use command_line::{Look, Map};
 use command_support::{FileWord, Role, Screen, Trouble, USUAL_WIDTH, Watched};
 use heap_image::{
-    Fault, FromRead, Image, Intake, Outlet, ToWrite, give_all, read_image_by_threads,
+    Fault, FromRead, Image, Intake, Outlet, ToWrite, all_processors, give_all, read_image,
 };
 use heap_map::{Glyphs, MapFigures, Picture, Shape, Style};
 use std::alloc::{AllocError, Global};
@@ -197,7 +197,7 @@ pub fn map<R: Intake, T: Threads + Sync>(
         (R.left input.old) (R.left input.new) (string_bytes text)) }
     ensures fault { IfErr result (λ fault. IfSome (R.left input.old) (λ bytes. IsReason bytes fault)) }
 {
-    let image = read_image_by_threads(alloc, input, threads)?;
+    let image = read_image(alloc, input, &all_processors(threads))?;
     text_of_image(alloc, &image, cut, style, threads)
 }
 
@@ -234,7 +234,7 @@ pub fn draw_into<R: Intake, O: Outlet, T: Threads + Sync>(
     ensures written { OnErr result ((output.new ≡ output.old) ⊎ IsTrue (O.has_failed output.new)) }
     ensures fault { IfErr result (λ fault. IfSome (R.left input.old) (λ bytes. IsReason bytes fault)) }
 {
-    let image = read_image_by_threads(alloc, input, threads)?;
+    let image = read_image(alloc, input, &all_processors(threads))?;
     let drawing = drawing_of(alloc, &image, cut, threads)?;
     give_all(output, drawing.svg.as_bytes())?;
     Ok(drawing)
@@ -278,7 +278,7 @@ fn picture_of_image(
     ensures after { IfOk result (λ picture. option_map (λ map. map.cells.items) picture.after ≡ after_shown image.now cut.entry) }
     ensures fault { IfErr result (λ fault. fault ≡ Fault.Memory) }
 {
-    let survey = Survey::of(alloc, image, threads)?;
+    let survey = Survey::of(alloc, image, &all_processors(threads))?;
     Ok(picture_of(alloc, image, &survey, cut)?)
 }
 

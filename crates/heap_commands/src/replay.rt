@@ -8,7 +8,7 @@ ghost use Rattle.heap_commands.specs.Unreplayed.{IsReplayRefused, IsScheduleUnre
 use command_files::{ImageAndSchedule, Opened, WorkDone};
 use command_line::Replay;
 use command_support::{LineReason, Trouble, Watched};
-use heap_image::{Fault, FromRead, Image, Intake, read_image_by_threads};
+use heap_image::{Fault, FromRead, Image, Intake, all_processors, read_image};
 use history::{End, Replayed, explain, read_schedule_from, replay, write_schedule};
 use scheduler::Schedule;
 use std::alloc::{AllocError, Global};
@@ -106,7 +106,7 @@ fn replay_from<R: Intake, S: Intake, T: Threads + Sync>(
     ensures fault { IfErr result (λ unreplayed. IsUnreplayed (R.left input.old) (R.left input.new)
         (S.left source.old) unreplayed.fault) }
 {
-    let image = read_image_by_threads(alloc, input, threads)?;
+    let image = read_image(alloc, input, &all_processors(threads))?;
     let schedule = schedule_in(alloc, source)?;
     replay_on(alloc, &image, schedule, threads)
 }
@@ -121,7 +121,7 @@ fn replay_on(
     ensures replay { IfOk result (IsReplayed image.now schedule) }
     ensures fault { IfErr result (λ unreplayed. IsReplayRefused image.now schedule unreplayed.fault) }
 {
-    let survey = Survey::of(alloc, image, threads)?;
+    let survey = Survey::of(alloc, image, &all_processors(threads))?;
     match replay(alloc, image, &survey, &schedule) {
         Ok(replayed) => Ok(replayed),
         Err(fault) => Err(refused(alloc, survey.plan(), &schedule, fault)),

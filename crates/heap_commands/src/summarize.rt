@@ -6,7 +6,7 @@ ghost use Rattle.heap_commands.specs.Summarize.{IsSummary, IsSummaryOf, heading,
 use command_files::{WorkDone, open_image};
 use command_line::Summary;
 use command_support::{Screen, Trouble};
-use heap_image::{Fault, FromRead, Image, Intake, read_image_by_threads};
+use heap_image::{Fault, FromRead, Image, Intake, all_processors, read_image};
 use std::alloc::Global;
 use std::rt::Files;
 use std::thread::Threads;
@@ -42,7 +42,7 @@ pub fn summarize<R: Intake, T: Threads + Sync>(
         IsSummaryOf headed (R.left input.old) (R.left input.new) (string_bytes text)) }
     ensures fault { IfErr result (λ fault. IfSome (R.left input.old) (λ bytes. IsReason bytes fault)) }
 {
-    let image = read_image_by_threads(alloc, input, threads)?;
+    let image = read_image(alloc, input, &all_processors(threads))?;
     summary_text(alloc, &image, headed, threads)
 }
 
@@ -56,7 +56,7 @@ fn summary_text(
     ensures summary { IfOk result (λ text. string_bytes text ≡ summary_of headed image.now) }
     ensures fault { IfErr result (λ fault. fault ≡ Fault.Memory) }
 {
-    let survey = Survey::of(alloc, image, threads)?;
+    let survey = Survey::of(alloc, image, &all_processors(threads))?;
     text_of(alloc, survey.plan(), headed)
 }
 

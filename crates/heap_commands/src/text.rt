@@ -6,7 +6,7 @@ ghost use Rattle.heap_commands.specs.Text.{AreLines, AreLinesOf};
 use command_files::{WorkDone, open_image};
 use command_line::{Shape, Text};
 use command_support::Trouble;
-use heap_image::{Fault, FromRead, Image, Intake, read_image_by_threads};
+use heap_image::{Fault, FromRead, Image, Intake, all_processors, read_image};
 use heap_text::write_text;
 use std::alloc::Global;
 use std::rt::Files;
@@ -35,7 +35,7 @@ pub fn lines_of<R: Intake, T: Threads + Sync>(
     ensures lines { IfOk result (λ lines. AreLinesOf (R.left input.old) (R.left input.new) lines.items) }
     ensures fault { IfErr result (λ fault. IfSome (R.left input.old) (λ bytes. IsReason bytes fault)) }
 {
-    let image = read_image_by_threads(alloc, input, threads)?;
+    let image = read_image(alloc, input, &all_processors(threads))?;
     lines_of_image(alloc, &image)
 }
 

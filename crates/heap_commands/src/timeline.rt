@@ -17,7 +17,7 @@ use command_files::{
 use command_line::Timeline;
 use command_support::{Failure, FileWord, Role, Screen, Trouble};
 use heap_image::{
-    Fault, FromRead, Image, Intake, Outlet, ToWrite, give_all, read_image_by_threads,
+    Fault, FromRead, Image, Intake, Outlet, ToWrite, all_processors, give_all, read_image,
 };
 use heap_map::Style;
 use schedule_timeline::Names;
@@ -307,7 +307,7 @@ fn follow<R: Intake, S: Intake, T: AllocGlobal + Threads + Sync>(
         (S.left source.old) unreplayed.fault) }
 {
     let alloc = rt.alloc();
-    let image = read_image_by_threads(alloc, input, rt)?;
+    let image = read_image(alloc, input, &all_processors(rt))?;
     let schedule = schedule_in(alloc, source)?;
     follow_on(alloc, &image, &schedule, rt)
 }
@@ -322,7 +322,7 @@ fn follow_on(
     ensures timeline { IfOk result (λ followed. IsTimelineOf image.now schedule.now followed.timeline) }
     ensures fault { IfErr result (λ unreplayed. IsReplayRefused image.now schedule.now unreplayed.fault) }
 {
-    let survey = Survey::of(alloc, image, threads)?;
+    let survey = Survey::of(alloc, image, &all_processors(threads))?;
     match schedule_timeline::Timeline::of(alloc, image, &survey, schedule) {
         Ok(timeline) => Ok(Followed { survey, timeline }),
         Err(fault) => Err(refused(alloc, survey.plan(), schedule, fault)),

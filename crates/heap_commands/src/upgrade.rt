@@ -15,7 +15,8 @@ use command_files::{Late, SystemFile, WorkDone, image_and_out};
 use command_line::Upgrade;
 use command_support::{Failure, Trouble, push_number, push_text};
 use heap_image::{
-    FromRead, Image, Intake, Outlet, ToWrite, Version, read_image, upgrade_to, write_image_buffered,
+    Alone, FromRead, Image, Intake, Outlet, ToWrite, Version, read_image, upgrade_to,
+    write_image_buffered,
 };
 use std::alloc::Global;
 use std::rt::Files;
@@ -69,7 +70,7 @@ pub fn upgrade_into<R: Intake, O: Outlet>(
         → number_of version < number_of found) }
 {
     let line = String::with_capacity(alloc, LINE_ROOM)?;
-    let image = read_image(alloc, input)?;
+    let image = read_image(alloc, input, &Alone)?;
     if version.number() < image.version().number() {
         return Err(Failure::Later {
             version: image.version(),

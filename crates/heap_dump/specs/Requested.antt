@@ -1,14 +1,29 @@
 -- What options request.
-use Rattle.std.specs.Prelude.{ℕ}
+use Rattle.std.specs.Prelude.{◌≡◌, ℕ, true, Option}
+use Rattle.std.specs.List.Sorted.{IsStrictlyIncreasing}
 use Rattle.std.specs.Option.{unwrap_or}
-use Rattle.object_heap.specs.HeapImage.{HeapImage, heap_words}
-use Rattle.object_heap.specs.Version.{IsChosen}
+use Rattle.object_heap.specs.HeapImage.{IsValid, heap_words, roots_of}
+use Rattle.object_heap.specs.Version.{IsChosen, has_roots}
+use Rattle.object_heap.specs.declared.version.Version.{Version}
+use Rattle.heap_dump.specs.ImportFigures.{AreFiguresOf}
+use Rattle.heap_dump.specs.declared.heap.draft.Imported.{Imported}
 use Rattle.heap_dump.specs.declared.options.Options.{Options}
 
 -- the region log, 9 by default
 abbrev pub requested_log : Options → ℕ
 requested_log options = unwrap_or options.region_log 9
 
--- the image has the version that options request; without one it has version 2 where that allows the heap, else version 3
-abbrev pub HasChosenVersion : Options → HeapImage → Type 0
-HasChosenVersion options image = IsChosen options.version image.region_log (heap_words image) image.version
+-- A valid image with ascending roots, of this region log and allowance, and its figures. It has the version that is requested;
+-- without one it has version 2 where that allows the heap, else version 3.
+pub record IsImageFor (requested : Option Version) (log allowed : ℕ) (imported : Imported) : Type 0 where
+  pub valid : IsValid imported.image
+  pub rooted : has_roots imported.image.version ≡ true
+  pub version : IsChosen requested log (heap_words imported.image) imported.image.version
+  pub region_log : imported.image.region_log ≡ log
+  pub allowance : imported.image.allowance ≡ allowed
+  pub roots : IsStrictlyIncreasing (roots_of imported.image)
+  pub figures : AreFiguresOf imported.image imported.figures
+
+-- what these options request
+abbrev pub IsRequested : Options → Imported → Type 0
+IsRequested options imported = IsImageFor options.version (requested_log options) options.allowance imported

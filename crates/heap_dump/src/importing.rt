@@ -1,11 +1,7 @@
 //! Imports a heap dump as an image.
-ghost use Rattle.std.specs.Prelude.{◌≡◌, true, IfOk, OnOk, IsTrue, ◌⊎◌, length};
+ghost use Rattle.std.specs.Prelude.{◌≡◌, IfOk, OnOk, IsTrue, ◌⊎◌, length};
 ghost use Rattle.std.specs.Io.KnownBytes.{IsAtEnd};
-ghost use Rattle.std.specs.List.Sorted.{IsStrictlyIncreasing};
-ghost use Rattle.object_heap.specs.HeapImage.{IsValid, roots_of};
-ghost use Rattle.object_heap.specs.Version.{has_roots};
-ghost use Rattle.heap_dump.specs.Requested.{HasChosenVersion, requested_log};
-ghost use Rattle.heap_dump.specs.ImportFigures.{AreFiguresOf};
+ghost use Rattle.heap_dump.specs.Requested.{IsRequested};
 ghost use Rattle.heap_dump.specs.Listing.{AreObjectsOf};
 ghost use Rattle.heap_dump.specs.Totals.{AreDeadWords, IsRanking, sums_of};
 
@@ -32,13 +28,7 @@ pub fn import<R: Intake>(
     second: &mut R,
     options: Options,
 ) -> Result<Imported, ImportError>
-    ensures valid { IfOk result (λ imported. IsValid imported.image) }
-    ensures rooted { IfOk result (λ imported. has_roots imported.image.version ≡ true) }
-    ensures version { IfOk result (λ imported. HasChosenVersion options imported.image) }
-    ensures region_log { IfOk result (λ imported. imported.image.region_log ≡ requested_log options) }
-    ensures roots { IfOk result (λ imported. IsStrictlyIncreasing (roots_of imported.image)) }
-    ensures allowance { IfOk result (λ imported. imported.image.allowance ≡ options.allowance) }
-    ensures figures { IfOk result (λ imported. AreFiguresOf imported.image imported.figures) }
+    ensures requested { IfOk result (λ imported. IsRequested options imported) }
     // The whole dump is read.
     ensures first_end { OnOk result (IsAtEnd (R.left first.new)) }
     ensures second_end { OnOk result (IsAtEnd (R.left second.new)) }
@@ -66,13 +56,7 @@ pub fn import_listed<R: Intake>(
     second: &mut R,
     options: Options,
 ) -> Result<ListedImport, ImportError>
-    ensures valid { IfOk result (λ listed. IsValid listed.imported.image) }
-    ensures rooted { IfOk result (λ listed. has_roots listed.imported.image.version ≡ true) }
-    ensures version { IfOk result (λ listed. HasChosenVersion options listed.imported.image) }
-    ensures region_log { IfOk result (λ listed. listed.imported.image.region_log ≡ requested_log options) }
-    ensures roots { IfOk result (λ listed. IsStrictlyIncreasing (roots_of listed.imported.image)) }
-    ensures allowance { IfOk result (λ listed. listed.imported.image.allowance ≡ options.allowance) }
-    ensures figures { IfOk result (λ listed. AreFiguresOf listed.imported.image listed.imported.figures) }
+    ensures requested { IfOk result (λ listed. IsRequested options listed.imported) }
     // Each object of the image once, by ascending addresses.
     ensures objects { IfOk result (λ listed. AreObjectsOf listed.imported.image listed.objects.items) }
     ensures counted { IfOk result (λ listed. listed.imported.figures.objects ≡ length listed.objects.items) }
@@ -127,13 +111,7 @@ fn import_classed<R: Intake>(
     options: Options,
     wants_classes: bool,
 ) -> Result<(Imported, ObjectClasses), ImportError>
-    ensures valid { IfOk result (λ made. IsValid made.0.image) }
-    ensures rooted { IfOk result (λ made. has_roots made.0.image.version ≡ true) }
-    ensures version { IfOk result (λ made. HasChosenVersion options made.0.image) }
-    ensures region_log { IfOk result (λ made. made.0.image.region_log ≡ requested_log options) }
-    ensures roots { IfOk result (λ made. IsStrictlyIncreasing (roots_of made.0.image)) }
-    ensures allowance { IfOk result (λ made. made.0.image.allowance ≡ options.allowance) }
-    ensures figures { IfOk result (λ made. AreFiguresOf made.0.image made.0.figures) }
+    ensures requested { IfOk result (λ made. IsRequested options made.0) }
     ensures first_end { OnOk result (IsAtEnd (R.left first.new)) }
     ensures second_end { OnOk result (IsAtEnd (R.left second.new)) }
     ensures input { result ≡ Err ImportError.Input
@@ -164,9 +142,16 @@ fn whole_heap<R: Intake>(
     let words = inventory.objects.measure(true).words();
     let most = regions.most_words_with_gaps(inventory.objects.measure(false).words());
     if words > most {
-        return Err(too_many_words(alloc, inventory, source, words, most));
+        // The error names the words of the reachable objects, so the dump is read again.
+        let live_words = Packed::of(alloc, inventory, source)?.survivors.words;
+        return Err(ImportError::TooManyWords {
+            words,
+            most,
+            live_words,
+        });
     }
-    let mut transcribed = Transcribed::of(alloc, &mut inventory, source, regions.log, true)?;
+    let placed = inventory.place(alloc, regions.log, true)?;
+    let mut transcribed = Transcribed::of(alloc, &mut inventory, placed, source)?;
     inventory.objects.seal(&mut transcribed.heap)?;
     Ok(transcribed.into_draft(inventory.into_roots()))
 }
@@ -190,28 +175,8 @@ fn live_heap<R: Intake>(
     if words > most {
         return Err(ImportError::TooManyLiveWords { words, most });
     }
-    let heap = UnsealedHeap::new(alloc, regions.log, words)?;
-    transcribed.evacuate(heap, survivors.addresses.as_slice(), roots.as_mut_slice())?;
+    let mut heap = UnsealedHeap::new(alloc, regions.log, words)?;
+    survivors.evacuate(&mut transcribed.heap, &mut heap, roots.as_mut_slice())?;
+    transcribed.heap = heap;
     Ok(transcribed.into_draft(roots))
-}
-
-/// Returns the error for a dump with more words than the most. It names the words of the reachable objects, so the dump
-/// is read again.
-fn too_many_words<R: Intake>(
-    alloc: Global,
-    inventory: Inventory,
-    source: &mut R,
-    words: u64,
-    most: u64,
-) -> ImportError
-    ensures { result ≡ ImportError.Input → IsTrue (R.has_failed source.new) }
-{
-    match Packed::of(alloc, inventory, source) {
-        Ok(packed) => ImportError::TooManyWords {
-            words,
-            most,
-            live_words: packed.survivors.words,
-        },
-        Err(error) => error,
-    }
 }

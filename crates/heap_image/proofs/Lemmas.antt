@@ -27,5 +27,6 @@ pub mod Marked
 pub mod RootLive
 pub mod FromTail
 pub mod Unchecked
+pub mod FrontFaults
 pub mod InOrder
 pub mod Upgrades

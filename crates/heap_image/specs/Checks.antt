@@ -2,7 +2,7 @@
 use Rattle.std.specs.Prelude.{◌≡◌, ℕ, ◌<◌, ◌⊎◌, Bool, IsTrue, List, All, Option, None, Some, Result, OnOk, IfErr, option_map}
 use Rattle.image_streams.specs.declared.fault.Fault.{Fault}
 use Rattle.image_streams.specs.declared.fault.Fault.TheVariants.{Memory}
-use Rattle.live_objects.specs.Soundness.{AreWellFormed}
+use Rattle.heap_marking.specs.Soundness.{AreWellFormed}
 use Rattle.object_heap.specs.Bits.{MarkBegins}
 use Rattle.object_heap.specs.HeapImage.{HeapImage, heap_words, with_live}
 use Rattle.object_heap.specs.declared.version.Version.{Version}

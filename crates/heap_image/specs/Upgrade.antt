@@ -1,9 +1,6 @@
 -- An image as one of a later version.
-use Rattle.std.specs.Prelude.{ℕ, ◌+◌, List, map, Option, Some}
+use Rattle.std.specs.Prelude.{◌+◌, map, Some}
 use Rattle.object_heap.specs.HeapImage.{HeapImage, roots_or}
-use Rattle.heap_image.specs.ImageText.{text}
-use Rattle.heap_image.specs.Reading.{IsRead}
-use Rattle.image_streams.specs.Outgoing.{TakesBeginning}
 use Rattle.object_heap.specs.declared.version.Version.{Version}
 use Rattle.object_heap.specs.declared.version.Version.TheVariants.{One, Two, Three}
 
@@ -26,9 +23,3 @@ abbrev pub upgraded_to : Version → HeapImage → HeapImage
 upgraded_to One image = image
 upgraded_to Two image = upgraded image
 upgraded_to Three image = in_version_three (upgraded image)
-
--- the whole input was read, it is the text of some image, and a prefix of the text of the upgraded image was written
-pub record IsUpgradeBegun (left left' took took' : Option (List ℕ)) : Type 0 where
-  pub image : HeapImage
-  pub read : IsRead image left left'
-  pub written : TakesBeginning took took' (text (upgraded image))

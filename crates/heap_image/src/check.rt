@@ -6,12 +6,12 @@ ghost use Rattle.heap_image.specs.Checks.{AreSeen, Reports};
 ghost use Rattle.heap_image.specs.ImageText.{first_object_fault};
 ghost use Rattle.object_heap.specs.ObjectFaults.{misplaced_index, is_dangling};
 ghost use Rattle.object_heap.specs.Bits.{MarkBegins};
-ghost use Rattle.live_objects.specs.Soundness.{AreWellFormed};
+ghost use Rattle.heap_marking.specs.Soundness.{AreWellFormed};
 
 pub(crate) mod unchecked;
 
 use crate::Fault;
-use live_objects::is_null_or_live;
+use heap_marking::is_null_or_live;
 use object_heap::header::{self, is_unsound};
 use object_heap::{Bits, Heap, is_small};
 

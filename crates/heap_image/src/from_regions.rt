@@ -1,22 +1,19 @@
 //! An image of regions that a caller has, which no word is copied for.
-ghost use Rattle.std.specs.Prelude.{◌≡◌, ◌<◌, ◌≤◌, ◌^◌, Some, [], All, length, map, IfOk, OnOk, IfErr, IfSome};
+ghost use Rattle.std.specs.Prelude.{◌≡◌, ◌<◌, ◌^◌, [], None, All, length, map, IfOk, OnOk, IfErr, IfSome};
 ghost use Rattle.std.specs.List.{concat, range_with_len};
-ghost use Rattle.object_heap.specs.HeapImage.{FormHeap, IsValid, AreBlocks, image_of, block_of, region_count};
-ghost use Rattle.heap_image.specs.Checks.{AreOfTail, IsMemoryOr, MayReport, first_in_tail};
-ghost use Rattle.heap_image.specs.Front.{Fits, bytes_of};
-ghost use Rattle.heap_image.specs.ImageText.{text, listed_text, from_tail, front_faults, first_fault, first_some};
+ghost use Rattle.object_heap.specs.HeapImage.{IsValid, AreBlocks, block_of, region_count};
+ghost use Rattle.heap_image.specs.Checks.{IsMemoryOr};
+ghost use Rattle.heap_image.specs.ImageText.{text, listed_text, from_tail, front_faults, first_fault, first_some, live_list_faults};
 ghost use Rattle.heap_image.specs.Reading.{HasFittingNumbers};
-ghost use Rattle.object_heap.specs.Sizes.{AreSizes};
 ghost use Rattle.heap_image.specs.Unchecked.{front_in, numbers_in};
 
-use crate::check::unchecked::{Found, find_live_objects};
+use crate::check::unchecked::find_sound_objects;
 use crate::io::front::Front;
 use crate::{Fault, Image, ImageParts, Version};
-use live_objects::PIECE;
+use heap_marking::Marker;
 use object_heap::{Heap, blocks_joined, objects_without_faults};
 use raw_region::Region;
 use std::alloc::Global;
-use thread_row::Alone;
 
 /// The parts of an image whose sizes and live objects aren't checked.
 #[derive(Drop)]
@@ -41,10 +38,16 @@ pub struct RefusedRegions {
 }
 
 /// The image of these parts, in the same regions. If it isn't valid, the regions come back with the first fault of its
-/// bytes, 3, 4, 6 to 9 or 17, or with fault 11 if memory runs out. Runs in the caller's thread alone.
+/// bytes, 3, 4, 6 to 9 or 17, or with fault 11 if memory runs out. The result does not depend on the number of the
+/// marker's threads.
 ///
 /// Fault 11 comes also for 2^32 live addresses or roots and for 2^64 words, which the bytes of an image can't count.
-pub fn image_of_regions(alloc: Global, parts: UncheckedParts) -> Result<Image, RefusedRegions>
+pub fn image_of_regions<M: Marker>(
+    alloc: Global,
+    parts: UncheckedParts,
+    marker: &M,
+) -> Result<Image, RefusedRegions>
+    requires marker { M.may_start }
     requires regions { AreBlocks parts.region_log parts.regions.items }
     ensures valid { IfOk result (λ image. IsValid image) }
     // The live objects are those of the list, or those that the roots reach.
@@ -55,36 +58,68 @@ pub fn image_of_regions(alloc: Global, parts: UncheckedParts) -> Result<Image, R
         (λ refused. IsMemoryOr (first_fault (listed_text parts.version (numbers_in parts))) refused.fault) }
     ensures back { IfErr result (λ refused. refused.regions.items ≡ parts.regions.items) }
 {
-    blocks_joined();
-    objects_without_faults();
-    let sized = parts.check_sizes();
-    let UncheckedParts {
-        version,
-        region_log,
-        allowance,
-        regions,
-        tail,
-    } = parts;
-    if let Err(fault) = sized {
-        return Err(RefusedRegions { regions, fault });
-    }
-    match find_sound_objects(alloc, version, region_log, regions.as_slice(), tail) {
-        Ok(sound) => {
-            let parts = ImageParts {
-                version,
-                region_log,
-                allowance,
-                regions,
-                live: sound.found.live,
-                roots: sound.found.roots,
-            };
-            Ok(parts.with_seen(Some(sound.found.begins), sound.sizes))
-        }
-        Err(fault) => Err(RefusedRegions { regions, fault }),
+    match parts.check_sizes() {
+        Ok(()) => parts.into_image(alloc, marker),
+        Err(fault) => Err(parts.refused(fault)),
     }
 }
 
 impl UncheckedParts {
+    /// The image of these parts, whose sizes are known to be within the limits. If it isn't valid, the regions come back
+    /// with the first fault of the live objects, 6 to 9 or 17, or with fault 11 if memory runs out.
+    pub(crate) fn into_image<M: Marker>(
+        self,
+        alloc: Global,
+        marker: &M,
+    ) -> Result<Image, RefusedRegions>
+        requires marker { M.may_start }
+        requires regions { AreBlocks self.region_log self.regions.items }
+        requires fits { HasFittingNumbers self.version (numbers_in self) }
+        ensures valid { IfOk result (λ image. IsValid image) }
+        ensures image { IfOk result (λ image. image ≡ from_tail self.version (numbers_in self)) }
+        ensures blocks { IfOk result (λ image. self.regions.items ≡ map (block_of image) (range_with_len 0 (region_count image))) }
+        ensures sound { OnOk result (first_some (live_list_faults (from_tail self.version (numbers_in self))) ≡ None) }
+        ensures fault { IfErr result (λ refused.
+            IsMemoryOr (first_some (live_list_faults (from_tail self.version (numbers_in self)))) refused.fault) }
+        ensures back { IfErr result (λ refused. refused.regions.items ≡ self.regions.items) }
+    {
+        blocks_joined();
+        objects_without_faults();
+        let UncheckedParts {
+            version,
+            region_log,
+            allowance,
+            regions,
+            tail,
+        } = self;
+        let heap = Heap::new(regions.as_slice(), region_log);
+        match find_sound_objects(alloc, &heap, version, tail, marker) {
+            Ok(sound) => {
+                let parts = ImageParts {
+                    version,
+                    region_log,
+                    allowance,
+                    regions,
+                    live: sound.found.live,
+                    roots: sound.found.roots,
+                };
+                Ok(parts.with_seen(Some(sound.found.begins), sound.sizes))
+            }
+            Err(fault) => Err(RefusedRegions { regions, fault }),
+        }
+    }
+
+    /// These regions, refused for this fault.
+    fn refused(self, fault: Fault) -> RefusedRegions
+        ensures regions { result.regions.items ≡ self.regions.items }
+        ensures fault { result.fault ≡ fault }
+    {
+        RefusedRegions {
+            regions: self.regions,
+            fault,
+        }
+    }
+
     /// Checks the sizes by the front that the image would have, whose faults are 3 and 4.
     fn check_sizes(&self) -> Result<(), Fault>
         ensures fits { OnOk result (HasFittingNumbers self.now.version (numbers_in self.now)) }
@@ -97,23 +132,15 @@ impl UncheckedParts {
         if count > u64::from(u32::MAX) {
             return Err(Fault::Memory);
         }
-        check_front(Front {
+        let front = Front {
             version: self.version,
             region_log: self.region_log,
             count: count as u32,
             words,
             allowance: self.allowance,
-        })
+        };
+        front.check()
     }
-}
-
-/// Checks the sizes in a front, whose faults are 3 and 4.
-fn check_front(fields: Front) -> Result<(), Fault>
-    ensures fits { OnOk result (Fits fields) }
-    ensures fault { IfErr result (λ fault. first_some (front_faults (bytes_of fields)) ≡ Some fault) }
-{
-    Front::parse(&fields.to_bytes())?;
-    Ok(())
 }
 
 /// The number of words of these regions, if it is below 2^64.
@@ -134,39 +161,4 @@ fn length_of(words: &[u64]) -> u64
     ensures fit { All (λ w. w < 2 ^ 64) words.now }
 {
     words.len() as u64
-}
-
-/// Live objects that are sound.
-#[derive(Drop)]
-struct SoundObjects {
-    found: Found,
-    /// Their sizes, if there is memory for them.
-    sizes: Option<Vec<[u32; PIECE]>>,
-}
-
-/// The live objects of the heap in these regions, which are sound. `tail` is what follows the words in a text of this
-/// version.
-fn find_sound_objects(
-    alloc: Global,
-    version: Version,
-    region_log: u32,
-    regions: &[Region],
-    tail: Vec<u64>,
-) -> Result<SoundObjects, Fault>
-    requires heap { FormHeap region_log regions.now }
-    requires few { length tail.items ≤ length (concat regions.now) }
-    requires counted { length tail.items < 2 ^ 32 }
-    ensures found { IfOk result
-        (λ sound. AreOfTail (image_of region_log 0 regions.now []) version tail.items sound.found) }
-    ensures sizes { IfOk result (λ sound. IfSome sound.sizes
-        (λ sizes. AreSizes (image_of region_log 0 regions.now sound.found.live.items) sizes.items)) }
-    ensures faults { MayReport result (first_in_tail version (image_of region_log 0 regions.now []) tail.items) }
-{
-    let heap = Heap::new(regions, region_log);
-    let found = find_live_objects(alloc, &heap, version, tail, &Alone)?;
-    let sizes = found.sizes_if_sound(alloc, &heap, &Alone);
-    if sizes.is_none() {
-        found.check(&heap)?;
-    }
-    Ok(SoundObjects { found, sizes })
 }

@@ -8,7 +8,7 @@ ghost use Rattle.object_heap.specs.Sizes.{AreSizes};
 ghost use Rattle.object_heap.specs.Version.{has_roots};
 
 use crate::laws::image_is_valid;
-use live_objects::PIECE;
+use heap_marking::PIECE;
 use object_heap::{
     Bits, Heap, Version, blocks_joined, header, regions_by_log, roots_are_null_or_live,
 };
@@ -85,31 +85,6 @@ impl Image {
         let roots = None;
         let parts = ImageParts {
             version: Version::One,
-            region_log,
-            allowance,
-            regions,
-            live,
-            roots,
-        };
-        parts.into_image()
-    }
-
-    /// Builds an image of version 2 from the parts of [`of_parts`](Image::of_parts) and the roots, from which exactly
-    /// these live objects are reachable.
-    pub fn of_rooted_parts(
-        region_log: u32,
-        allowance: u64,
-        regions: Vec<Region>,
-        live: Vec<u64>,
-        roots: Vec<u64>,
-    ) -> Image
-        requires regions { AreBlocks region_log regions.items }
-        requires valid { IsValid (versioned_image_of Version.Two region_log allowance regions.items live.items (Some roots.items)) }
-        ensures { result ≡ versioned_image_of Version.Two region_log allowance regions.items live.items (Some roots.items) }
-    {
-        let roots = Some(roots);
-        let parts = ImageParts {
-            version: Version::Two,
             region_log,
             allowance,
             regions,

@@ -9,9 +9,8 @@
 //!
 //! Each valid image has exactly one encoding, its text. [`decode`] and [`encode`] work in memory; [`read_image`] and
 //! [`write_image`] work on any [`Intake`] and [`Outlet`]; [`FromRead`] and [`ToWrite`] adapt std's readers and writers.
-//! Bytes that encode no valid image are rejected with their first [`Fault`]. [`decode_by_threads`],
-//! [`read_image_by_threads`], [`read_image_by_workers`] and [`mark_from_roots_by_workers`] return the same results, and
-//! mark and check in parallel.
+//! Bytes that encode no valid image are rejected with their first [`Fault`]. A [`Marker`] is who marks and checks: the
+//! caller [`Alone`], or [`Many`] threads, as [`all_processors`], with the same result.
 //!
 //! A [`Heap`] is the words of a heap alone, and a [`Bits`] is a set of addresses.
 //!
@@ -29,29 +28,32 @@ mod image;
 mod io;
 mod laws;
 mod marking;
+mod processors;
 mod upgrading;
 
 pub use from_regions::{RefusedRegions, UncheckedParts, image_of_regions};
+pub use heap_marking::{Marker, PIECE};
 pub use image::{Image, ImageParts};
 pub use image_streams::{
     Body, BodySize, Extent, Failed, Fault, FileStore, FromRead, Intake, Outlet, Store, ToWrite,
     body_at, give_all,
 };
-pub use io::decoding::{decode, decode_by_threads};
+pub use io::decoding::decode;
 pub use io::encoding::encode;
 pub use io::front::length_cause::LengthCause;
-pub use io::front::{FRONT_BYTES, extent_after_front};
-pub use io::read::{read_image, read_image_by_threads, read_image_by_workers};
+pub use io::front::{FRONT_BYTES, Front, extent_after_front};
+pub use io::read::read_image;
 pub use io::write::{write_image, write_image_buffered};
 pub use laws::{
     faultless_is_text, faults_of_roots, image_is_valid, marked_parts_are_valid, one_text,
     text_is_faultless, text_is_read_back, text_tells_its_size,
 };
-pub use live_objects::PIECE;
-pub use marking::reach::{mark_from_roots, mark_from_roots_by_workers};
+pub use marking::mark_from_roots;
 pub use object_heap::{
     Bits, Heap, Version, blocks_joined, header, inserted_bit, limits, live_laws,
     live_objects_are_reached, reachable_is_the_least_closed, regions_by_log,
     roots_are_null_or_live,
 };
-pub use upgrading::{upgrade, upgrade_stream, upgrade_to};
+pub use processors::all_processors;
+pub use thread_row::{Alone, Many};
+pub use upgrading::{upgrade, upgrade_to};

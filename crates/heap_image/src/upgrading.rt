@@ -1,17 +1,9 @@
 //! Converts images to later versions.
-ghost use Rattle.heap_image.specs.ImageText.{text};
-ghost use Rattle.heap_image.specs.Reading.{IsRead};
-ghost use Rattle.heap_image.specs.Refusals.{IsReason, IsOfReading};
-ghost use Rattle.heap_image.specs.Upgrade.{upgraded, upgraded_to, in_version_three, IsUpgradeBegun};
-ghost use Rattle.object_heap.specs.HeapImage.{HeapImage, roots_of};
+ghost use Rattle.heap_image.specs.Upgrade.{upgraded, upgraded_to, in_version_three};
 ghost use Rattle.object_heap.specs.Version.{has_roots};
-ghost use Rattle.std.specs.Io.KnownBytes.{Appends};
-ghost use Rattle.std.specs.Prelude.{false, ◌≡◌, ◌≢◌, ◌<◌, ◌⊎◌, ◌+◌, ◌^◌, None, Some, Err, All, true, is_some, length, map, IfOk, IfErr, OnErr, IfSome, IsTrue};
+ghost use Rattle.std.specs.Prelude.{false, ◌≡◌, ◌<◌, ◌+◌, ◌^◌, None, All, true, is_some, map, IfOk, IfErr};
 
-use crate::io::read::read_image;
-use crate::io::write::write_image_buffered;
 use crate::{Fault, Image, ImageParts, Version};
-use image_streams::{Intake, Outlet};
 use object_heap::live_objects_are_reached;
 use std::alloc::{AllocError, Global};
 
@@ -87,36 +79,4 @@ fn with_roots(image: Image, roots: Vec<u64>) -> Image
         ..parts
     };
     parts.into_image()
-}
-
-/// Reads an image, upgrades it, writes it, and returns its number of roots.
-///
-/// Nothing is written before the upgrade is complete. After fault 13 of the writer, a prefix of the text is written.
-pub fn upgrade_stream<R: Intake, O: Outlet>(
-    alloc: Global,
-    reader: &mut R,
-    writer: &mut O,
-) -> Result<u32, Fault>
-    ensures text { IfOk result (λ count. (image : HeapImage)
-        × IsRead image (R.left reader.old) (R.left reader.new)
-        × Appends (O.took writer.old) (O.took writer.new) (text (upgraded image))
-        × (count ≡ length (roots_of (upgraded image)))) }
-    ensures written { OnErr result ((writer.new ≡ writer.old)
-        ⊎ IsUpgradeBegun (R.left reader.old) (R.left reader.new) (O.took writer.old) (O.took writer.new)) }
-    ensures fault { IfErr result
-        (λ fault. IfSome (R.left reader.old) (λ input. IsReason input fault)) }
-    // This holds even if the input is not known.
-    ensures kind { IfErr result IsOfReading }
-    // Once it writes, only the device can stop it.
-    ensures nothing_yet { IfErr result (λ fault. fault ≢ Fault.Io → writer.new ≡ writer.old) }
-    ensures device { result ≡ Err Fault.Io
-        → IsTrue (R.has_failed reader.new) ⊎ IsTrue (O.has_failed writer.new) }
-{
-    let image = read_image(alloc, reader)?;
-    let image = match upgrade(alloc, image) {
-        Ok(image) => image,
-        Err((_, fault)) => return Err(fault),
-    };
-    write_image_buffered(alloc, &image, writer)?;
-    Ok(image.roots().len() as u32)
 }

@@ -14,7 +14,7 @@ use crate::limits::Limits;
 use crate::regions::{all_fit, regions_of};
 use crate::room::Room;
 use crate::wanted::Wanted;
-use heap_image::{Fault, Image, ImageParts, mark_from_roots, marked_parts_are_valid};
+use heap_image::{Alone, Fault, Image, ImageParts, mark_from_roots, marked_parts_are_valid};
 use mark_bitmap::Marks;
 use raw_region::Region;
 use std::alloc::{AllocError, Global};
@@ -51,7 +51,7 @@ pub fn generate(alloc: Global, wanted: &Wanted) -> Result<Generated, GenerationE
 fn check_live(alloc: Global, image: &Image, room: Room) -> Result<(), GenerationError>
     ensures { OnOk result (live_words image.now 0 (heap_words image.now) ≡ room.live) }
 {
-    let live_words = Marks::of(alloc, image)?.live_words(0, image.len());
+    let live_words = Marks::of(alloc, image, &Alone)?.live_words(0, image.len());
     if live_words != room.live {
         return Err(GenerationError::Defect);
     }
@@ -121,7 +121,13 @@ impl UnmarkedHeap {
             return Err(GenerationError::Roots(roots.len() as u64));
         }
         let (region_log, allowance) = (limits.region_log, wanted.allowance);
-        let live = match mark_from_roots(alloc, region_log, regions.as_slice(), roots.as_slice()) {
+        let live = match mark_from_roots(
+            alloc,
+            region_log,
+            regions.as_slice(),
+            roots.as_slice(),
+            &Alone,
+        ) {
             Ok(live) => live,
             Err(Fault::Memory) => return Err(GenerationError::Memory),
             Err(_) => return Err(GenerationError::Defect),

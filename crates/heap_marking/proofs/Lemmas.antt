@@ -11,3 +11,6 @@ pub mod Starts
 pub mod Joins
 pub mod Finish
 pub mod Ones
+pub mod References
+pub mod SoundObjects
+pub mod SoundReferences

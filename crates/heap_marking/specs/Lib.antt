@@ -3,3 +3,4 @@ pub mod Boxes
 pub mod Spread
 pub mod Rounds
 pub mod LiveList
+pub mod Soundness

@@ -12,7 +12,7 @@ use thread_row::Many;
 const LEAST_WORDS: usize = 4_096;
 
 /// The addresses of a set, ascending.
-pub fn marked_addresses(alloc: Global, bits: &Bits) -> Result<Vec<u64>, AllocError>
+pub(crate) fn marked_addresses(alloc: Global, bits: &Bits) -> Result<Vec<u64>, AllocError>
     requires few { length bits.now < 2 ^ 58 }
     ensures { IfOk result (λ live. live.items ≡ addresses_of bits.now) }
 {
@@ -20,24 +20,25 @@ pub fn marked_addresses(alloc: Global, bits: &Bits) -> Result<Vec<u64>, AllocErr
     marked_between(alloc, words, 0, words.len())
 }
 
-/// Like [`marked_addresses`], in the threads of a crowd: each writes a part of the list, which is allocated once.
-pub fn marked_by_crowd<T: Threads + Sync>(
+/// Like [`marked_addresses`], in several threads if the set is large: each writes a part of the list, which is allocated
+/// once.
+pub(crate) fn list_in_threads<T: Threads + Sync>(
     alloc: Global,
     bits: &Bits,
-    crowd: &Many<'_, T>,
+    many: &Many<'_, T>,
 ) -> Result<Vec<u64>, AllocError>
     requires few { length bits.now < 2 ^ 58 }
     ensures { IfOk result (λ live. live.items ≡ addresses_of bits.now) }
 {
     let words = bits.words();
-    let count = crowd.most.min(words.len() / LEAST_WORDS);
+    let count = many.most.min(words.len() / LEAST_WORDS);
     if count < 2 {
         return marked_addresses(alloc, bits);
     }
     let writer = ListWriter {
         words,
         share: words.len().div_ceil(count),
-        threads: crowd.threads,
+        threads: many.threads,
     };
     let mut live = vec![in alloc; 0u64; ones_between(words, 0, words.len())]?;
     writer.start(live.as_mut_slice());

@@ -57,8 +57,8 @@ pub struct Marked {
     pub well_formed: bool,
 }
 
-/// Marks the addresses of a heap that are reachable from the roots.
-pub fn mark(alloc: Global, heap: &Heap<'_>, roots: &[u64]) -> Result<Marked, AllocError>
+/// Marks the addresses of a heap that are reachable from the roots, in the caller's thread.
+pub(crate) fn mark(alloc: Global, heap: &Heap<'_>, roots: &[u64]) -> Result<Marked, AllocError>
     ensures reached { IfOk result (λ marked. AreReached heap.now roots.now marked.bits) }
     ensures well_formed { IfOk result
         (λ marked. IsTrue marked.well_formed → AreReachedWell heap.now roots.now) }
@@ -75,21 +75,21 @@ pub fn mark(alloc: Global, heap: &Heap<'_>, roots: &[u64]) -> Result<Marked, All
     marking.finish(alloc, heap)
 }
 
-/// Like [`mark`], in the threads of a crowd. The result does not depend on their number.
-pub fn mark_by_crowd<T: Threads + Sync>(
+/// Like [`mark`], in several threads if the heap is large. The result does not depend on their number.
+pub(crate) fn mark_in_threads<T: Threads + Sync>(
     alloc: Global,
     heap: &Heap<'_>,
     roots: &[u64],
-    crowd: &Many<'_, T>,
+    many: &Many<'_, T>,
 ) -> Result<Marked, AllocError>
     ensures reached { IfOk result (λ marked. AreReached heap.now roots.now marked.bits) }
     ensures well_formed { IfOk result
         (λ marked. IsTrue marked.well_formed → AreReachedWell heap.now roots.now) }
 {
-    if crowd.most < 2 || heap.len() < LEAST_WORDS {
+    if many.most < 2 || heap.len() < LEAST_WORDS {
         return mark(alloc, heap, roots);
     }
-    let marking = mark_in_rounds(alloc, heap, roots, crowd)?;
+    let marking = mark_in_rounds(alloc, heap, roots, many)?;
     marking.finish(alloc, heap)
 }
 
@@ -98,13 +98,13 @@ fn mark_in_rounds<T: Threads + Sync>(
     alloc: Global,
     heap: &Heap<'_>,
     roots: &[u64],
-    crowd: &Many<'_, T>,
+    many: &Many<'_, T>,
 ) -> Result<Marking, AllocError>
     requires some { 0 < heap_words heap.now }
     ensures { IfOk result (IsUnderway heap.now roots.now) }
 {
     let mut rounds = Rounds::new(alloc, heap, part_log(heap.len()), roots)?;
-    rounds.run(alloc, heap, crowd)?;
+    rounds.run(alloc, heap, many)?;
     rounds.marking(alloc, heap)
 }
 

@@ -1,5 +1,5 @@
 //! The base heap in both versions, its compaction, and builders of texts and images.
-use heap_image::{Image, decode, decode_by_threads};
+use heap_image::{Alone, Image, all_processors, decode};
 use std::alloc::{AllocError, Global};
 use std::test::Fail;
 use std::thread::Threads;
@@ -164,13 +164,13 @@ pub fn image_of(
     threads: &(impl Threads + Sync),
 ) -> Result<Image, Fail> {
     let text = image_text(alloc, settings, words, live)?;
-    Ok(decode_by_threads(alloc, text.as_slice(), threads)?)
+    Ok(decode(alloc, text.as_slice(), &all_processors(threads))?)
 }
 
 /// The image of the base heap with this allowance and these live addresses.
 pub fn base_image(alloc: Global, allowance: u64, live: &[u64]) -> Result<Image, Fail> {
     let text = image_text(alloc, Settings::of_base(allowance), &BASE_WORDS, live)?;
-    Ok(decode(alloc, text.as_slice())?)
+    Ok(decode(alloc, text.as_slice(), &Alone)?)
 }
 
 /// The base heap, in either version.

@@ -1,7 +1,5 @@
 //! The results of the calls that read and write images.
-use heap_image::{
-    Fault, FromRead, Image, decode, decode_by_threads, encode, read_image, read_image_by_threads,
-};
+use heap_image::{Alone, Fault, FromRead, Image, all_processors, decode, encode, read_image};
 use std::alloc::Global;
 use std::process::Abort;
 use std::thread::Threads;
@@ -36,7 +34,7 @@ fn is_decoded_by_threads(
     threads: &(impl Threads + Sync),
     text: &[u8],
 ) -> Result<bool, Fault> {
-    let image = decode_by_threads(alloc, text, threads)?;
+    let image = decode(alloc, text, &all_processors(threads))?;
     is_text(alloc, &image, text)
 }
 
@@ -45,17 +43,17 @@ fn is_read_by_threads(
     threads: &(impl Threads + Sync),
     text: &[u8],
 ) -> Result<bool, Fault> {
-    let image = read_image_by_threads(alloc, &mut FromRead::new(text), threads)?;
+    let image = read_image(alloc, &mut FromRead::new(text), &all_processors(threads))?;
     is_text(alloc, &image, text)
 }
 
 fn is_decoded(alloc: Global, text: &[u8]) -> Result<bool, Fault> {
-    let image = decode(alloc, text)?;
+    let image = decode(alloc, text, &Alone)?;
     is_text(alloc, &image, text)
 }
 
 fn is_read(alloc: Global, text: &[u8]) -> Result<bool, Fault> {
-    let image = read_image(alloc, &mut FromRead::new(text))?;
+    let image = read_image(alloc, &mut FromRead::new(text), &Alone)?;
     is_text(alloc, &image, text)
 }
 

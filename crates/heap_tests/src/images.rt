@@ -15,7 +15,8 @@ mod versions;
 use crate::answers::{are_right, comes_through};
 use crate::checks::{equal, equal_bytes, equal_words, holds};
 use heap_image::{
-    Fault, FromRead, Image, ToWrite, decode_by_threads, encode, header, read_image, write_image,
+    Alone, Fault, FromRead, Image, ToWrite, all_processors, decode, encode, header, read_image,
+    write_image,
 };
 use heap_samples::{BASE_LIVE, BASE_WORDS, Base};
 use mark_bitmap::Marks;
@@ -24,6 +25,7 @@ use std::process::Abort;
 use std::test::Fail;
 use std::thread::Threads;
 use texts::{base_text, front};
+use thread_row::Many;
 
 /// The first 32 bytes of the base heap.
 const BASE_FRONT: [u8; 32] = [
@@ -48,7 +50,7 @@ fn the_base_is_read_and_written(rt: HostRuntime) -> Result<(), Fail> {
 /// Reads an image, and returns it with the number of unread bytes.
 fn read_whole(alloc: Global, text: &[u8]) -> Result<(Image, usize), Fault> {
     let mut reader = FromRead::new(text);
-    let image = read_image(alloc, &mut reader)?;
+    let image = read_image(alloc, &mut reader, &Alone)?;
     Ok((image, reader.into_inner().len()))
 }
 
@@ -97,7 +99,7 @@ fn check_heap(rt: &impl Abort, image: &Image) {
 #[test]
 fn sizes_are_kept_if_threads_check(rt: HostRuntime) -> Result<(), Fail> {
     let text = base_text(rt.alloc())?;
-    let mut image = decode_by_threads(rt.alloc(), text.as_slice(), &rt)?;
+    let mut image = decode(rt.alloc(), text.as_slice(), &all_processors(&rt))?;
     equal(&rt, image.live().get(3), Some(&20));
     equal(&rt, last_size(&image), 10);
     image.forget_seen();
@@ -109,8 +111,12 @@ fn sizes_are_kept_if_threads_check(rt: HostRuntime) -> Result<(), Fail> {
 #[test]
 fn marks_take_over_the_kept_bits(rt: HostRuntime) -> Result<(), Fail> {
     let text = base_text(rt.alloc())?;
-    let mut image = decode_by_threads(rt.alloc(), text.as_slice(), &rt)?;
-    let marks = Marks::taking_over(rt.alloc(), &mut image, 2, &rt)?;
+    let mut image = decode(rt.alloc(), text.as_slice(), &all_processors(&rt))?;
+    let many = Many {
+        threads: &rt,
+        most: 2,
+    };
+    let marks = Marks::taking_over(rt.alloc(), &mut image, &many)?;
     let begins = [marks.next_begin(13), marks.next_begin(21)];
     equal(&rt, begins, [Some(20), None]);
     holds(&rt, image.begins().is_none());
@@ -148,7 +154,7 @@ fn refused_memory_is_reported(rt: HostRuntime) {
 #[test]
 fn an_image_is_taken_apart_and_rebuilt(rt: HostRuntime) -> Result<(), Fail> {
     let text = base_text(rt.alloc())?;
-    let parts = decode_by_threads(rt.alloc(), text.as_slice(), &rt)?.into_parts();
+    let parts = decode(rt.alloc(), text.as_slice(), &all_processors(&rt))?.into_parts();
     equal(&rt, (parts.region_log, parts.allowance), (3, 0));
     equal(&rt, (parts.regions.len(), parts.live.len()), (4, 4));
     let image = parts.into_image();

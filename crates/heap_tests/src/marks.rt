@@ -7,13 +7,14 @@ mod marking;
 use crate::answers::are_right;
 use crate::checks::{equal, holds};
 use crate::images::texts::regions_of;
-use heap_image::{Fault, Image, decode};
+use heap_image::{Alone, Fault, Image, decode};
 use heap_samples::{BASE_LIVE, Base, Object, base_image, image_of, image_text, plain_words};
 use mark_bitmap::Marks;
 use std::alloc::{AllocError, Global};
 use std::process::Abort;
 use std::test::Fail;
 use std::thread::Threads;
+use thread_row::Many;
 
 /// The marks of the base heap.
 fn base_marks(rt: &impl Abort, alloc: Global) -> Result<Marks, Fail>
@@ -21,7 +22,7 @@ fn base_marks(rt: &impl Abort, alloc: Global) -> Result<Marks, Fail>
 {
     let image = base_image(alloc, 0, &BASE_LIVE)?;
     holds(rt, image.len() == 32);
-    Ok(Marks::of(alloc, &image)?)
+    Ok(Marks::of(alloc, &image, &Alone)?)
 }
 
 /// The image of a heap with this region log and number of words, whose objects have no references and only zeros after
@@ -54,7 +55,7 @@ fn plain_marks(
 {
     let image = plain_image(rt, alloc, sizes, objects)?;
     holds(rt, image.len() == sizes.1);
-    Ok(Marks::of(alloc, &image)?)
+    Ok(Marks::of(alloc, &image, &Alone)?)
 }
 
 /// Whether exactly these are the addresses below 600 at which objects begin.
@@ -95,13 +96,10 @@ fn check_answers(rt: &impl Abort, marks: &Marks)
     equal(rt, counts, [19, 3, 0]);
     let begins = [marks.next_begin(13), marks.next_begin(21)];
     equal(rt, begins, [Some(20), None]);
-    let ends = [marks.next_end(21), marks.next_end(32)];
-    equal(rt, ends, [Some(29), None]);
     let live = [marks.next_live(3), marks.next_live(30)];
     equal(rt, live, [Some(5), None]);
     holds(rt, marks.is_begin(20));
     equal(rt, marks.size_at(20), 10);
-    equal(rt, marks.block_words(), 8);
 }
 
 /// By the marks that this number of workers makes of a heap of 512 words: the number of live words, and whether these
@@ -115,7 +113,11 @@ fn count_by_workers(
 ) -> Result<(u64, bool), AllocError>
     requires { heap_words image.now ≡ 512 }
 {
-    let marks = Marks::by_workers(alloc, image, workers, threads)?;
+    let many = Many {
+        threads,
+        most: workers,
+    };
+    let marks = Marks::of(alloc, image, &many)?;
     Ok((marks.live_words(0, 512), are_ends(&marks, ends)))
 }
 
@@ -136,10 +138,7 @@ fn are_alike(marks: &Marks, others: &Marks, len: u64) -> bool
     requires others_inside { len ≤ heap_words others.now }
 {
     for a in 0..len {
-        if marks.is_begin(a) != others.is_begin(a)
-            || marks.is_end(a) != others.is_end(a)
-            || marks.live_bits(a / 64) != others.live_bits(a / 64)
-        {
+        if marks.is_begin(a) != others.is_begin(a) || marks.is_end(a) != others.is_end(a) {
             return false;
         }
     }
@@ -152,7 +151,7 @@ fn are_made_alike(
     alloc: Global,
     image: &Image,
 ) -> Result<bool, Fault> {
-    let marks = Marks::of(alloc, image)?;
+    let marks = Marks::of(alloc, image, &Alone)?;
     Ok(are_shared_alike(threads, alloc, image, &marks)?)
 }
 
@@ -165,7 +164,7 @@ fn are_shared_alike(
 ) -> Result<bool, AllocError>
     requires { marks.now ≡ image.now }
 {
-    let shared = Marks::by_workers(alloc, image, 2, threads)?;
+    let shared = Marks::of(alloc, image, &Many { threads, most: 2 })?;
     Ok(are_alike(marks, &shared, image.len()))
 }
 
@@ -181,7 +180,7 @@ fn large_comes_through(alloc: Global, threads: &(impl Threads + Sync)) -> Result
     let live = objects.map(|object| object.0);
     let words = plain_words(alloc, 2_097_152, &objects)?;
     let text = image_text(alloc, regions_of(16), words.as_slice(), &live)?;
-    are_made_alike(threads, alloc, &decode(alloc, text.as_slice())?)
+    are_made_alike(threads, alloc, &decode(alloc, text.as_slice(), &Alone)?)
 }
 
 /// A script runs this with each allocation refused in turn.
@@ -197,7 +196,7 @@ fn two_threads_make_the_same_marks_and_refused_memory_is_reported(rt: HostRuntim
 /// Whether two workers make the same marks of the base heap with allowance 2 as one.
 fn base_comes_through(alloc: Global, threads: &(impl Threads + Sync)) -> Result<bool, Fault> {
     let text = Base::WithLiveList.text(alloc, 2)?;
-    are_made_alike(threads, alloc, &decode(alloc, text.as_slice())?)
+    are_made_alike(threads, alloc, &decode(alloc, text.as_slice(), &Alone)?)
 }
 
 /// A script runs this with each allocation refused in turn.
@@ -208,36 +207,6 @@ fn refused_memory_is_reported(rt: HostRuntime) {
         base_comes_through(rt.alloc(), &rt),
     ];
     holds(&rt, are_right(&answers));
-}
-
-#[test]
-fn live_bits_of_64_addresses(rt: HostRuntime) -> Result<(), Fail> {
-    let objects = [(1, 1), (60, 6), (127, 1)];
-    let marks = plain_marks(&rt, rt.alloc(), (7, 128), &objects)?;
-    let bits = [marks.live_bits(0), marks.live_bits(1), marks.live_bits(2)];
-    equal(&rt, bits, [0xf000_0000_0000_0002, 0x8000_0000_0000_0003, 0]);
-    Ok(())
-}
-
-/// The number of live words before each block in its region, in a heap of `len` words.
-fn block_sums(alloc: Global, marks: &Marks, len: u64) -> Result<Vec<u32>, AllocError>
-    requires { heap_words marks.now ≡ len }
-{
-    let blocks = len.checked_div(marks.block_words()).unwrap_or(0);
-    let mut sums = Vec::new(alloc);
-    for b in 0..blocks {
-        sums.push(marks.block_live(b))?;
-    }
-    Ok(sums)
-}
-
-#[test]
-fn blocks_count_from_their_own_region(rt: HostRuntime) -> Result<(), Fail> {
-    let marks = plain_marks(&rt, rt.alloc(), (9, 1024), &[(10, 700), (900, 3)])?;
-    let sums = block_sums(rt.alloc(), &marks, 1024)?;
-    let wanted = [0, 118, 246, 374, 0, 128, 198, 198];
-    equal(&rt, sums.as_slice(), wanted.as_slice());
-    Ok(())
 }
 
 #[test]

@@ -14,7 +14,7 @@ use crate::lines::{line_of_address, line_of_place};
 use crate::parsed_heap::{ParsedHeap, numbers_after_words};
 use crate::reading::{parse_from, parse_text};
 use crate::writing::write_text_with_capacity;
-use heap_image::{Fault, Image, Intake, read_image, text_is_read_back, text_tells_its_size};
+use heap_image::{Alone, Fault, Image, Intake, read_image, text_is_read_back, text_tells_its_size};
 use std::alloc::Global;
 
 /// Returns the image whose text this is, or the first line that differs from what is expected.
@@ -89,7 +89,7 @@ fn decode_heap(alloc: Global, mut bytes: ImageBytes<'_>, text: &[u8]) -> Result<
         → AcceptsText result (λ found. found ≡ image) }
 {
     text_is_read_back();
-    match read_image(alloc, &mut bytes) {
+    match read_image(alloc, &mut bytes, &Alone) {
         Ok(image) => Ok(image),
         Err(fault) => Err(error_of_fault(text, fault)),
     }

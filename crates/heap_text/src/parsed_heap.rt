@@ -1,12 +1,12 @@
 //! The contents of a text before it is known to describe a valid heap.
 ghost use Rattle.std.specs.Prelude.{◌≡◌, ◌<◌, ◌^◌, [], length, if◌then◌else◌};
-ghost use Rattle.object_heap.specs.Version.{has_roots, magic};
+ghost use Rattle.object_heap.specs.Version.{has_roots};
 ghost use Rattle.heap_image.specs.ImageText.{front};
 ghost use Rattle.heap_text.specs.Words.{words_of, tail_of};
 
 use crate::expected::Expected;
 use crate::word_list::WordList;
-use heap_image::{FRONT_BYTES, Version};
+use heap_image::{FRONT_BYTES, Front, Version};
 use std::alloc::Global;
 
 /// The contents of a text before it is known to describe a valid heap.
@@ -61,14 +61,14 @@ impl ParsedHeap {
             ≡ front self.now.version self.now.region_log (length (tail_of self.now)) self.now.words.len self.now.allowance }
     {
         let tail = numbers_after_words(self.version, self.roots.as_slice(), self.live.as_slice());
-        let count = u32::try_from(tail.len()).unwrap_or(u32::MAX);
-        let mut bytes = [0; FRONT_BYTES];
-        bytes[..8].copy_from_slice(magic(self.version));
-        bytes[8..12].copy_from_slice(&self.region_log.to_le_bytes());
-        bytes[12..16].copy_from_slice(&count.to_le_bytes());
-        bytes[16..24].copy_from_slice(&self.words.len().to_le_bytes());
-        bytes[24..].copy_from_slice(&self.allowance.to_le_bytes());
-        bytes
+        let front = Front {
+            version: self.version,
+            region_log: self.region_log,
+            count: u32::try_from(tail.len()).unwrap_or(u32::MAX),
+            words: self.words.len(),
+            allowance: self.allowance,
+        };
+        front.to_bytes()
     }
 }
 
@@ -81,15 +81,4 @@ pub(crate) fn numbers_after_words<'a>(
     ensures { result.now ≡ (if has_roots version then roots.now else live.now) }
 {
     if version.has_roots() { roots } else { live }
-}
-
-/// The first bytes of an image.
-fn magic(version: Version) -> &'static [u8]
-    ensures { result.now ≡ magic version }
-{
-    match version {
-        Version::One => b"PCHEAP01",
-        Version::Two => b"PCHEAP02",
-        Version::Three => b"PCHEAP03",
-    }
 }

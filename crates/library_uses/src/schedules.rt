@@ -10,6 +10,7 @@ use std::alloc::Global;
 use std::sync::Wait;
 use std::thread::Threads;
 use summary::Survey;
+use thread_row::Alone;
 
 /// The schedule of a collection by two workers.
 pub fn record_two_workers<R: AllocGlobal + Threads + Wait + Sync>(
@@ -32,7 +33,7 @@ pub fn replay_schedule(
 ) -> Result<Option<Image>, Fault>
     ensures { IfOk result (λ found. IfSome found (λ after. after ≡ compact image.now)) }
 {
-    let survey = Survey::alone(alloc, image)?;
+    let survey = Survey::of(alloc, image, &Alone)?;
     let Replayed { lines: _, ended } = replay(alloc, image, &survey, schedule)?;
     match ended {
         End::Finished(after) => Ok(Some(after)),

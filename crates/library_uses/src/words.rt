@@ -7,8 +7,8 @@ ghost use Rattle.summary.specs.Compaction.{compact};
 ghost use Rattle.caller_heap.specs.HeapWords.{heap_bytes};
 ghost use Rattle.library_uses.specs.Settings.{settings_of};
 
-use caller_heap::{HeapSettings, collect_rooted_words};
-use heap_image::Fault;
+use caller_heap::{HeapSettings, collect_words};
+use heap_image::{Fault, Version};
 use std::alloc::Global;
 
 /// A heap that allocates at its top.
@@ -33,7 +33,8 @@ pub fn compact_cells(alloc: Global, cells: &mut Cells) -> Result<(), Fault>
         allowance: 0,
     };
     let words = cells.words.as_mut_slice();
-    let figures = collect_rooted_words(alloc, settings, words, cells.roots.as_mut_slice())?;
+    let roots = cells.roots.as_mut_slice();
+    let figures = collect_words(alloc, Version::Three, settings, words, roots)?;
     cells.top = figures.new_top;
     Ok(())
 }

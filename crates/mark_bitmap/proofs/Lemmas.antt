@@ -2,5 +2,4 @@ pub mod Tests
 pub mod Apart
 pub mod Runs
 pub mod Ends
-pub mod BlockStarts
 pub mod PartBits

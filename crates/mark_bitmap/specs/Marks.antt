@@ -1,7 +1,7 @@
 -- The marks of an image.
-use Rattle.std.specs.Prelude.{◌≡◌, ℕ, ◌+◌, ◌*◌, ◌/◌, ◌<◌, ◌≤◌, ◌==◌, ◌&&◌, nat_lt, min, Bool, List, All, length, slice_index}
+use Rattle.std.specs.Prelude.{◌≡◌, ℕ, ◌+◌, ◌*◌, ◌/◌, ◌<◌, ◌≤◌, ◌==◌, ◌&&◌, nat_lt, Bool, List, All, length, slice_index}
 use Rattle.std.specs.List.{list_any}
-use Rattle.object_heap.specs.HeapImage.{HeapImage, IsValid, heap_words, region_words, region_of, start_of, end_of, is_word_of, is_live_word, live_words}
+use Rattle.object_heap.specs.HeapImage.{HeapImage, IsValid, heap_words, end_of, is_word_of, is_live_word}
 use Rattle.object_heap.specs.Bits.{has, room}
 
 -- words of bits, of which the first has the bits of the addresses from 64 * start on
@@ -16,17 +16,6 @@ module _ (image : HeapImage) where
   -- the word at a is the last of a live object
   abbrev pub is_end : ℕ → Bool
   is_end a = list_any (λ b. end_of image b == a + 1) image.live
-
-  -- the number of words of a block: 128, or those of a region if a region is smaller
-  abbrev pub block_words : ℕ
-  block_words = min 128 (region_words image)
-
-  abbrev pub block_count : ℕ
-  block_count = heap_words image / block_words
-
-  -- the number of live words from the start of its region up to the start of block b
-  abbrev pub block_live : ℕ → ℕ
-  block_live b = live_words image (start_of image (region_of image (b * block_words))) (b * block_words)
 
   -- the length of a bit array with room for each address, and for the end of the heap
   abbrev pub bit_words : ℕ
@@ -45,9 +34,8 @@ module _ (image : HeapImage) where
     pub bits : (a : ℕ) → has live a ≡ is_live_word image a
 
   -- what the marks of this image keep
-  pub record AreMarks (region_log : ℕ) (begins live : List ℕ) : Type 0 where
+  pub record AreMarks (begins live : List ℕ) : Type 0 where
     pub valid : IsValid image
-    pub log : region_log ≡ image.region_log
     pub bits : HaveMarks image.live begins live
 
   -- the words at k - 1 and at k belong to the same object

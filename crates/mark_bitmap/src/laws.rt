@@ -7,5 +7,5 @@ use crate::marks::Marks;
 pub fn marked_image_is_valid(marks: &Marks)
     ensures { IsValid marks.now }
 {
-    marks.block_words();
+    marks.own();
 }

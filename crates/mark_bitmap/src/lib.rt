@@ -2,22 +2,24 @@
 //!
 //! [`Marks::of`] builds two bitmaps with a bit for each word of the heap from the live list: the begin bits of the first
 //! words of live objects, and the live bits of all their words, which make counts fast. A live object ends before each
-//! word that isn't live or begins the next. [`Marks::by_workers`] builds the same in several threads. No other call
-//! allocates memory.
+//! word that isn't live or begins the next. A [`MarkBuilder`] is who sets the live bits: the caller
+//! [`Alone`](thread_row::Alone), or [`Many`](thread_row::Many) threads. No other call allocates memory.
 //!
 //! A contract sees [`Marks`] as the image that they were made of, as it was then: `marks.now ≡ image.now` says that
 //! these are the marks of this image. The result of each query is stated by the definitions of `heap_image` for that
 //! image.
 //!
-//! Proved: the exact result of each query, for every valid image. Only tested: `of` and `by_workers` return an error if
-//! memory runs out, and the number of threads of the latter. How fast the queries are is neither proved nor tested.
+//! Proved: the exact result of each query, for every valid image. Only tested: `of` returns an error if memory runs out,
+//! and the number of threads. How fast the queries are is neither proved nor tested.
 #![tactic(auto)]
 
 mod laws;
+mod live_shares;
 mod mark_builder;
 mod marks;
 mod objects;
 mod part_bits;
 
 pub use laws::marked_image_is_valid;
+pub use mark_builder::MarkBuilder;
 pub use marks::Marks;

@@ -1,53 +1,43 @@
-//! Sets the live bits of an image in parts, each in a thread.
-ghost use Rattle.std.specs.Prelude.{◌≡◌, ◌+◌, ◌<◌, length};
+//! Making the marks of an image in one thread or in several, for code that serves both.
+ghost use Rattle.std.specs.Prelude.{◌≡◌, length};
 ghost use Rattle.object_heap.specs.HeapImage.{is_live_word};
 ghost use Rattle.mark_bitmap.specs.Marks.{AreBegins, AreBitsFrom, IsBlankPart};
 
+use crate::live_shares::LiveShares;
 use crate::objects::mark_part;
-use heap_image::{Bits, Image, image_is_valid};
-use std::thread::{Threads, join_mut};
+use heap_image::{Bits, Image};
+use std::thread::Threads;
+use thread_row::{Alone, Hands, Many};
 
-/// What the threads share.
-#[derive(Drop)]
-pub(crate) struct MarkBuilder<'a, T: Threads + Sync> {
-    pub(crate) image: &'a Image,
-    /// The bits of the first words of the live objects.
-    pub(crate) begins: &'a Bits,
-    pub(crate) threads: &'a T,
-    /// The number of words of bits that a thread sets.
-    pub(crate) share: usize,
+/// The least number of words of bits that are worth a thread.
+const LEAST_BIT_WORDS: usize = 16_384;
+
+/// The threads that set the live bits of an image.
+pub trait MarkBuilder: Hands {
+    /// Sets the live bits of the whole heap in `words`, none of which is set yet. `begins` has the begin bits.
+    fn set_live_bits(&self, image: &Image, begins: &Bits, words: &mut [u64])
+        requires start { Self.may_start }
+        requires begins { AreBegins image.now begins.now }
+        requires blank { IsBlankPart image.now 0 words.old }
+        ensures room { length words.new ≡ length words.old }
+        ensures bits { AreBitsFrom (is_live_word image.now) 0 words.new };
 }
 
-impl<T: Threads + Sync> MarkBuilder<'_, T> {
-    /// Sets the live bits of the addresses from `64 * start` on. Each share of words but the last gets a thread, which this
-    /// one starts.
-    #[cycle(parts)]
-    pub(crate) fn mark(&self, start: usize, words: &mut [u64])
-        requires share { 0 < self.now.share }
-        requires begins { AreBegins self.now.image.now self.now.begins.now }
-        requires blank { IsBlankPart self.now.image.now start words.old }
-        ensures room { length words.new ≡ length words.old }
-        ensures bits { AreBitsFrom (is_live_word self.now.image.now) start words.new }
-    {
-        if words.len() <= self.share {
-            mark_part(self.image, self.begins, start, words);
-            return;
-        }
-        image_is_valid(self.image);
-        let (low_words, high_words) = words.split_at_mut(self.share);
-        let middle = start + low_words.len();
-        let mut low = ||
-            requires { (0 < self.now.share) × AreBegins self.now.image.now self.now.begins.now
-                × IsBlankPart self.now.image.now start low_words.now }
-            ensures { (length low_words.exit.now ≡ length low_words.entry.now)
-                × AreBitsFrom (is_live_word self.entry.now.image.now) start low_words.exit.now }
-        { self.mark(start, low_words) };
-        let mut high = ||
-            requires { (0 < self.now.share) × AreBegins self.now.image.now self.now.begins.now
-                × IsBlankPart self.now.image.now middle high_words.now }
-            ensures { (length high_words.exit.now ≡ length high_words.entry.now)
-                × AreBitsFrom (is_live_word self.entry.now.image.now) middle high_words.exit.now }
-        { self.mark(middle, high_words) };
-        join_mut(self.threads, &mut low, &mut high);
+impl MarkBuilder for Alone {
+    fn set_live_bits(&self, image: &Image, begins: &Bits, words: &mut [u64]) {
+        mark_part(image, begins, 0, words);
+    }
+}
+
+impl<T: Threads + Sync> MarkBuilder for Many<'_, T> {
+    fn set_live_bits(&self, image: &Image, begins: &Bits, words: &mut [u64]) {
+        let share = words.len().div_ceil(self.most.max(1)).max(LEAST_BIT_WORDS);
+        let shares = LiveShares {
+            image,
+            begins,
+            threads: self.threads,
+            share,
+        };
+        shares.mark(0, words);
     }
 }

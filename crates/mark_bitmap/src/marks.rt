@@ -1,30 +1,24 @@
 //! The mark bitmaps of an image, and the queries on them.
-ghost use Rattle.std.specs.Prelude.{◌≡◌, ℕ, ◌+◌, ◌-◌, ◌*◌, ◌<◌, ◌≤◌, ◌==◌, IsTrue, IfOk, MatchOption, length};
-ghost use Rattle.std.specs.Int.{bit_at};
+ghost use Rattle.std.specs.Prelude.{◌≡◌, ◌+◌, ◌-◌, ◌<◌, ◌≤◌, IsTrue, IfOk, MatchOption, length};
 ghost use Rattle.std.specs.Arc.{arc_value};
 ghost use Rattle.object_heap.specs.HeapImage.{IsValid, heap_words, is_live_word, is_dead_word, live_words, size_at};
 ghost use Rattle.object_heap.specs.Bits.{NoneFrom, IsFirstFrom, NoneBetween, IsFirstBetween};
-ghost use Rattle.mark_bitmap.specs.Marks.{AreBegins, AreBitsFrom, AreLiveBits, bit_words, continues_at, is_begin, is_end, block_words, block_count, block_live};
+ghost use Rattle.mark_bitmap.specs.Marks.{AreBegins, AreBitsFrom, AreLiveBits, bit_words, continues_at, is_begin, is_end};
 
 use crate::laws::marked_image_is_valid;
 use crate::mark_builder::MarkBuilder;
-use crate::objects::{begin_bits, mark_part, no_bits, taken_begin_bits};
-use heap_image::{Bits, Image};
+use crate::objects::{begin_bits, no_bits, taken_begin_bits};
+use heap_image::{Bits, Image, image_is_valid};
 use std::alloc::{AllocError, Global};
 use std::marker::Model;
 use std::snapshot::Snapshot;
 use std::sync::Arc;
-use std::thread::Threads;
-
-/// The least number of words of bits that are worth a thread.
-const LEAST_BIT_WORDS: usize = 16_384;
 
 /// Where the live objects of an image begin and end, and which words they occupy.
 ///
 /// A contract sees the image that the marks were made of, as it was then. The image itself is not kept.
 pub struct Marks {
     image: Snapshot<Image>,
-    region_log: u32,
     begins: Bits,
     live: Arc<Bits, Global>,
 }
@@ -33,7 +27,6 @@ impl Drop for Marks {
     fn drop(self) {
         let Self {
             image,
-            region_log,
             begins,
             live,
         } = self;
@@ -49,70 +42,54 @@ impl Model for Marks {
 
     ghost view = { λ m. m.image.value };
 
-    ghost invariant = { λ m. AreMarks m.image.value m.region_log m.begins (arc_value m.live) };
+    ghost invariant = { λ m. AreMarks m.image.value m.begins (arc_value m.live) };
 }
 
 impl Marks {
-    /// Builds the marks of an image from its live list and the headers of its objects.
+    /// Builds the marks of an image from its live list and the headers of its objects. The builder's threads set the live
+    /// bits.
     ///
     /// Allocates about 2 bits for each word of the heap.
-    pub fn of(alloc: Global, image: &Image) -> Result<Marks, AllocError>
-        ensures { IfOk result (λ marks. marks ≡ image.now) }
-    {
-        let begins = begin_bits(alloc, image)?;
-        let mut live = no_bits(alloc, image)?;
-        mark_part(image, &begins, 0, live.as_mut_slice());
-        Marks::with_bits(alloc, image, begins, live)
-    }
-
-    /// Like [`of`](Marks::of), but in at most `workers` threads, the caller's included; 0 counts as 1.
-    pub fn by_workers(
+    pub fn of<B: MarkBuilder>(
         alloc: Global,
         image: &Image,
-        workers: usize,
-        threads: &(impl Threads + Sync),
+        builder: &B,
     ) -> Result<Marks, AllocError>
+        requires { B.may_start }
         ensures { IfOk result (λ marks. marks ≡ image.now) }
     {
         let begins = begin_bits(alloc, image)?;
-        Marks::in_shares(alloc, image, begins, share_of(image, workers), threads)
+        Marks::with_begins(alloc, image, begins, builder)
     }
 
-    /// Like [`by_workers`](Marks::by_workers), but takes over the bits that reading the image has kept, if it has. The
-    /// image itself doesn't change.
-    pub fn taking_over(
+    /// Like [`of`](Marks::of), but takes over the bits that reading the image has kept, if it has. The image itself
+    /// doesn't change.
+    pub fn taking_over<B: MarkBuilder>(
         alloc: Global,
         image: &mut Image,
-        workers: usize,
-        threads: &(impl Threads + Sync),
+        builder: &B,
     ) -> Result<Marks, AllocError>
+        requires { B.may_start }
         ensures marks { IfOk result (λ marks. marks ≡ image.old) }
         ensures same { image.new ≡ image.old }
     {
         let begins = taken_begin_bits(alloc, image)?;
-        Marks::in_shares(alloc, image, begins, share_of(image, workers), threads)
+        Marks::with_begins(alloc, image, begins, builder)
     }
 
-    /// Builds the marks of an image with these begin bits, with a thread for each `share` words of bits.
-    fn in_shares(
+    /// Builds the marks of an image with these begin bits.
+    fn with_begins<B: MarkBuilder>(
         alloc: Global,
         image: &Image,
         begins: Bits,
-        share: usize,
-        threads: &(impl Threads + Sync),
+        builder: &B,
     ) -> Result<Marks, AllocError>
+        requires start { B.may_start }
         requires begins { AreBegins image.now begins }
-        requires some { 0 < share }
         ensures { IfOk result (λ marks. marks ≡ image.now) }
     {
         let mut live = no_bits(alloc, image)?;
-        let builder = MarkBuilder {
-            image,
-            begins: &begins,
-            threads,
-            share,
-        };
-        builder.mark(0, live.as_mut_slice());
+        builder.set_live_bits(image, &begins, live.as_mut_slice());
         Marks::with_bits(alloc, image, begins, live)
     }
 
@@ -128,10 +105,10 @@ impl Marks {
         requires live { AreBitsFrom (is_live_word image.now) 0 live.items }
         ensures { IfOk result (λ marks. marks ≡ image.now) }
     {
+        image_is_valid(image);
         let live = Arc::new(alloc, Bits::from_words(live))?;
         Ok(Marks {
             image: Snapshot::of(image),
-            region_log: image.region_log(),
             begins,
             live,
         })
@@ -165,15 +142,6 @@ impl Marks {
         ensures { MatchOption result (NoneFrom (is_begin self.now) from) (IsFirstFrom (is_begin self.now) from) }
     {
         self.begins.next(from)
-    }
-
-    /// The first address from `from` on of the last word of a live object.
-    pub fn next_end(&self, from: u64) -> Option<u64>
-        ensures { MatchOption result (NoneFrom (is_end self.now) from) (IsFirstFrom (is_end self.now) from) }
-    {
-        marked_image_is_valid(self);
-        let first = self.next_live(from)?;
-        Some(self.behind(first) - 1)
     }
 
     /// The first address from `from` on whose word belongs to a live object.
@@ -215,27 +183,17 @@ impl Marks {
         self.live.count(from, to)
     }
 
-    /// The live bits of 64 consecutive addresses: bit `j` is set if the word at `64 * i + j` belongs to a live object.
-    #[inline]
-    pub fn live_bits(&self, i: u64) -> u64
-        requires { 64 * i ≤ heap_words self.now }
-        ensures bits { (j : ℕ) → j < 64 → (bit_at result j == 1) ≡ is_live_word self.now (64 * i + j) }
-        ensures valid { IsValid self.now }
-    {
-        self.live.word(i as usize)
-    }
-
     /// The size in words of the live object that begins at address `begin`.
     pub fn size_at(&self, begin: u64) -> u64
         requires { IsTrue (is_begin self.now begin) }
         ensures { result ≡ size_at self.now begin }
     {
         marked_image_is_valid(self);
-        self.behind(begin) - begin
+        self.object_end(begin) - begin
     }
 
-    /// The address behind the live object that has the word at `a`.
-    fn behind(&self, a: u64) -> u64
+    /// The end of the live object that has the word at `a`: the address after its last word.
+    fn object_end(&self, a: u64) -> u64
         requires { IsTrue (is_live_word self.now a) }
         ensures after { a < result }
         ensures last { IsFirstFrom (is_end self.now) a (result - 1) }
@@ -253,31 +211,10 @@ impl Marks {
         self.live.contains(a) && !self.is_begin(a)
     }
 
-    /// The number of words of a block: 128, or those of a region if a region is smaller.
-    pub fn block_words(&self) -> u64
-        ensures value { result ≡ block_words self.now }
-        ensures valid { IsValid self.now }
+    /// A law: the image of these marks is valid.
+    pub(crate) fn own(&self)
+        ensures { IsValid self.now }
     {
-        1 << self.region_log.min(7)
+        let _image = &self.image;
     }
-
-    /// The number of live words from the start of its region up to the start of block `b`.
-    ///
-    /// Blocks are numbered from 0 at address 0, and each lies within one region.
-    pub fn block_live(&self, b: u64) -> u32
-        requires { b < block_count self.now }
-        ensures { result ≡ block_live self.now b }
-    {
-        let start = b * self.block_words();
-        let region = start >> self.region_log << self.region_log;
-        self.live_words(region, start) as u32
-    }
-}
-
-/// The number of words of bits for each of at most `workers` threads; 0 counts as 1.
-fn share_of(image: &Image, workers: usize) -> usize
-    ensures { 0 < result }
-{
-    let words = (image.len() / 64 + 1) as usize;
-    words.div_ceil(workers.max(1)).max(LEAST_BIT_WORDS)
 }

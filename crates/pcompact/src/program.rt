@@ -98,8 +98,8 @@ struct Manner {
 }
 
 impl Manner {
-    /// How the request of these arguments is carried out. What it asks for is an argument; the second tests let the
-    /// contract speak of arguments.
+    /// How the request of these arguments is carried out. `have_word` repeats what the request says, so that the contract
+    /// can name arguments.
     fn of(words: &[String], request: &Request<'_>, screen: Screen) -> Manner
         ensures stats { IsTrue result.measured → HaveWord (codes "--stats") words.now }
         ensures json { IsTrue result.json → HaveWord (codes "--json") words.now }
@@ -152,8 +152,8 @@ where
     0
 }
 
-/// Carries out a request but for printing. What it prints is an object if the manner says so. Room for that of a line is
-/// allocated before the command writes a file.
+/// Runs a command and returns its text; prints nothing. The text is an object if the manner says so. Room for that of a line
+/// is allocated before the command writes a file.
 fn answer<'a, R: Files + AllocGlobal + Threads + Wait + Clock + Sync>(
     rt: &R,
     manner: Manner,

@@ -1,6 +1,7 @@
-pub mod Alike
+pub mod Answered
 pub mod Crossing
 pub mod Held
 pub mod Kept
+pub mod Lent
 pub mod Numbered
 pub mod Shares

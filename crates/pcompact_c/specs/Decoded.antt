@@ -1,7 +1,7 @@
 -- What decoding tells and writes.
 use Rattle.std.specs.Prelude.{◌≡◌, ℕ, ◌<◌, ◌≤◌, List, ◌++◌, length, drop}
 use Rattle.object_heap.specs.HeapImage.{HeapImage, heap_words, version_of}
-use Rattle.pcompact_c.specs.declared.answers.heap.PcompactHeap.{PcompactHeap}
+use Rattle.pcompact_c.specs.declared.decode.PcompactHeap.{PcompactHeap}
 
 -- the struct tells of an image with these live addresses or roots
 pub record IsHeapOf (image : HeapImage) (tail : List ℕ) (heap : PcompactHeap) : Type 0 where

@@ -2,7 +2,7 @@
 use Rattle.std.specs.Prelude.{◌≡◌, ℕ, ◌<◌, ◌^◌, ⊤}
 use Rattle.image_streams.specs.declared.fault.Fault.{Fault}
 use Rattle.image_streams.specs.declared.fault.Fault.TheVariants.{TruncatedHeader, Magic, RegionLog, Length, TruncatedBody, LiveOrder, Header, Overlap, Reference, Trailing, Memory, Workers, Io, Schedule, Overwritten, Gate, Root}
-use Rattle.pcompact_c.specs.declared.answers.fault.PcompactFault.{PcompactFault}
+use Rattle.pcompact_c.specs.declared.fault.PcompactFault.{PcompactFault}
 
 -- the number of a fault in the formats
 abbrev pub number_of : Fault → ℕ
@@ -52,3 +52,7 @@ pub record IsOf (fault : Fault) (c : PcompactFault) : Type 0 where
   pub number : c.number ≡ number_of fault
   pub place : c.place ≡ place_of fault
   pub field : c.field ≡ field_of fault
+
+-- the C struct is a fault for this reason
+abbrev pub IsFaultFor : (Fault → Type 0) → PcompactFault → Type 0
+IsFaultFor why c = (fault : Fault) × IsOf fault c × why fault

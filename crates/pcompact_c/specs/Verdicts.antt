@@ -8,8 +8,7 @@ use Rattle.summary.specs.Compaction.{compact}
 use Rattle.verification.specs.Verdict.{IsVerdict}
 use Rattle.verification.specs.declared.verdict.Verdict.{Verdict}
 use Rattle.verification.specs.declared.verdict.Verdict.TheVariants.{Same, Shape, Word, Live, Root}
-use Rattle.caller_heap.specs.Collected.{IsWhyKept}
-use Rattle.pcompact_c.specs.declared.answers.verdict.PcompactVerdict.{PcompactVerdict}
+use Rattle.pcompact_c.specs.declared.verdict.PcompactVerdict.{PcompactVerdict}
 
 -- the number of what differs
 abbrev pub difference_of : Verdict → ℕ
@@ -39,7 +38,10 @@ abbrev pub AreCompared : List ℕ → List ℕ → Verdict → Type 0
 AreCompared before after verdict = (image found : HeapImage) × IsValid image × IsValid found
     × (before ≡ text image) × (after ≡ text found) × IsVerdict (compact image) found verdict
 
--- the first image isn't collected for this reason, or the second isn't read: memory ran out, or it is the first fault of its bytes
+-- memory ran out, or it is the first fault of these bytes
+abbrev pub IsWhyUnread : List ℕ → Fault → Type 0
+IsWhyUnread bytes fault = (fault ≡ Memory) ⊎ (first_fault bytes ≡ Some fault)
+
+-- one of the images, the first or the second, isn't read or compared for this reason
 abbrev pub IsWhyUncompared : List ℕ → List ℕ → ℕ → Fault → Type 0
-IsWhyUncompared before after image fault = ((image ≡ 1) × IsWhyKept before fault)
-    ⊎ ((image ≡ 2) × ((fault ≡ Memory) ⊎ (first_fault after ≡ Some fault)))
+IsWhyUncompared before after image fault = ((image ≡ 1) × IsWhyUnread before fault) ⊎ ((image ≡ 2) × IsWhyUnread after fault)

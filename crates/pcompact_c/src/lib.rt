@@ -1,22 +1,43 @@
 //! The C interface of the collector. `c/pcompact.h` declares it, and says what a caller must keep.
 //!
-//! No call starts a thread or waits, and none keeps state but behind the handles of a collection by several threads. Memory
-//! is allocated by the C library's heap alone.
+//! No call starts a thread or waits, and all state is in the handles of collections by several threads. Memory is allocated
+//! by the C library's heap alone.
 //!
 //! Proved: what each contract says of what a call returns and writes. Only tested: the texts of faults,
 //! and how far workers come.
 #![tactic(auto)]
 
-mod answers;
-mod collections;
-mod images;
-mod plans;
-mod sessions;
+ghost use Rattle.std.specs.Prelude.{◌≡◌};
 
-pub use answers::answer::PcompactAnswer;
-pub use answers::fault::PcompactFault;
-pub use answers::heap::PcompactHeap;
-pub use answers::verdict::PcompactVerdict;
+mod answer;
+mod begin;
+mod collect;
+mod decode;
+mod encode;
+mod end;
+mod fault;
+mod fault_text;
+mod handle;
+mod plan;
+mod raw_box;
+mod references;
+mod verdict;
+mod verify;
+mod work;
+
+pub use answer::PcompactAnswer;
+pub use begin::PcompactLentSettings;
 pub use caller_heap::HeapSettings as PcompactSettings;
+pub use decode::PcompactHeap;
+pub use fault::PcompactFault;
+pub use handle::PcompactHandle;
 pub use raw_region::HostWords as PcompactWords;
-pub use sessions::handle::PcompactHandle;
+pub use verdict::PcompactVerdict;
+
+/// The version as `1_000_000 * major + 1_000 * minor + patch`.
+#[unsafe(no_mangle)]
+pub extern "C" fn pcompact_version() -> u32
+    ensures { result ≡ 3000 }
+{
+    3_000
+}

@@ -9,6 +9,7 @@ use std::alloc::Global;
 use std::test::Fail;
 use std::thread::Threads;
 use summary::Survey;
+use thread_row::Many;
 
 /// A heap and its figures: the prefix end, the new top, the number of regions to fill, and the new addresses.
 type Row = (Sizes, &'static [Object], &'static [u64]);
@@ -17,13 +18,13 @@ type Row = (Sizes, &'static [Object], &'static [u64]);
 fn figures(alloc: Global, image: &Image, survey: &Survey) -> Result<Vec<u64>, Fault>
     requires { survey.now ≡ image.now }
 {
-    let (plan, marks) = (survey.plan(), survey.marks());
+    let plan = survey.plan();
     let mut figures = Vec::new(alloc);
     figures.push(plan.prefix_end())?;
     figures.push(plan.new_top())?;
     figures.push(u64::from(plan.fill_regions()))?;
     for a in image.live() {
-        figures.push(plan.new_address(marks, *a))?;
+        figures.push(plan.new_address(*a))?;
     }
     Ok(figures)
 }
@@ -33,7 +34,7 @@ fn image_figures<T: Threads + Sync>(
     alloc: Global,
     image: &Image,
 ) -> Result<Vec<u64>, Fault> {
-    let survey = Survey::of(alloc, image, threads)?;
+    let survey = Survey::of(alloc, image, &Many { threads, most: 2 })?;
     figures(alloc, image, &survey)
 }
 
@@ -105,7 +106,7 @@ fn survey_findings<T: Threads + Sync>(
     alloc: Global,
     image: &Image,
 ) -> Result<(u64, Option<u64>), Fault> {
-    let survey = Survey::of(alloc, image, threads)?;
+    let survey = Survey::of(alloc, image, &Many { threads, most: 2 })?;
     Ok((survey.plan().new_top(), survey.marks().next_begin(6)))
 }
 
@@ -130,7 +131,7 @@ fn places_found<T: Threads + Sync>(
     alloc: Global,
     image: &Image,
 ) -> Result<[Option<u64>; 3], Fault> {
-    let survey = Survey::of(alloc, image, threads)?;
+    let survey = Survey::of(alloc, image, &Many { threads, most: 2 })?;
     Ok([
         place_from(&survey, 6),
         place_from(&survey, 13),

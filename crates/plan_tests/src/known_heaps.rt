@@ -8,6 +8,7 @@ use std::alloc::Global;
 use std::test::Fail;
 use std::thread::Threads;
 use summary::Plan;
+use thread_row::Many;
 
 /// The objects of the base heap: 32 words in regions of 8.
 pub const BASE: [Object; 4] = [(0, 3), (5, 4), (12, 2), (20, 10)];
@@ -42,8 +43,9 @@ pub fn image_plan<T: Threads + Sync>(
 ) -> Result<Plan, Fault>
     ensures { IfOk result (λ plan. plan ≡ image.now) }
 {
-    let marks = Marks::of(alloc, image)?;
-    Plan::of(alloc, image, &marks, threads)
+    let many = Many { threads, most: 2 };
+    let marks = Marks::of(alloc, image, &many)?;
+    Plan::of(alloc, image, &marks, &many)
 }
 
 /// The plan of such a heap.

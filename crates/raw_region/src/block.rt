@@ -99,7 +99,7 @@ impl Block {
         self.into_room().release(alloc);
     }
 
-    /// Lets the words be. Those of an allocation are never freed then.
+    /// Drops the block without freeing its words.
     pub(crate) fn leave(self) {
         let Block { at: _, len: _ } = self;
     }

@@ -141,7 +141,7 @@ impl Room {
         unsafe { alloc.deallocate(at as *mut u8, len * 8, 8) }
     }
 
-    /// Lets the room be. If it is of an allocation, nobody frees that then.
+    /// Drops the room without freeing it.
     pub(crate) fn leave(self) {
         let Room { at: _, len: _ } = self;
     }

@@ -1,6 +1,6 @@
 //! Checks and replays of schedules of the base heap. `tests/cli/test_commands.py` has the replies, and other refused lines.
 use crate::checks::{equal_at, expect_memory_fault};
-use heap_image::{Fault, decode_by_threads, encode};
+use heap_image::{Fault, all_processors, decode, encode};
 use heap_samples::{Base, MOVED_LIVE, MOVED_WORDS, Settings, image_text};
 use history::{End, Replayed, check, explain, read_schedule, replay};
 use scheduler::Schedule;
@@ -9,6 +9,7 @@ use std::process::Abort;
 use std::test::Fail;
 use std::thread::Threads;
 use summary::{Plan, Survey};
+use thread_row::Many;
 
 /// The words of the compaction of the base heap with an allowance of 2 dead words.
 pub const WITH_PREFIX: [u64; 32] = [
@@ -93,8 +94,8 @@ pub const BY_TWO: &str = "schedule 1 2
 
 /// Surveys the image with these bytes.
 fn survey_of(alloc: Global, threads: &(impl Threads + Sync), text: &[u8]) -> Result<Survey, Fault> {
-    let image = decode_by_threads(alloc, text, threads)?;
-    Survey::of(alloc, &image, threads)
+    let image = decode(alloc, text, &all_processors(threads))?;
+    Survey::of(alloc, &image, &Many { threads, most: 2 })
 }
 
 /// Replays a schedule over the image with these bytes.
@@ -104,8 +105,8 @@ fn replay_on(
     text: &[u8],
     schedule: &Schedule,
 ) -> Result<Replayed, Fault> {
-    let image = decode_by_threads(alloc, text, threads)?;
-    let survey = Survey::of(alloc, &image, threads)?;
+    let image = decode(alloc, text, &all_processors(threads))?;
+    let survey = Survey::of(alloc, &image, &Many { threads, most: 2 })?;
     replay(alloc, &image, &survey, schedule)
 }
 

@@ -6,7 +6,7 @@ use crate::texts::with_prefix;
 use collector::{
     Found, OpenGate, Refusal, Verdict, collect, collect_stream, explain, verify, verify_below_top,
 };
-use heap_image::{Fault, FromRead, Image, ToWrite, decode_by_threads, encode};
+use heap_image::{Alone, Fault, FromRead, Image, ToWrite, all_processors, decode, encode};
 use heap_samples::Base;
 use plain_compaction::compact_plainly;
 use ready_queues::Ready;
@@ -21,7 +21,7 @@ pub(crate) fn image(
     threads: &(impl Threads + Sync),
 ) -> Result<Image, Fault> {
     let text = base.text(alloc, 2)?;
-    decode_by_threads(alloc, &text, threads)
+    decode(alloc, &text, &all_processors(threads))
 }
 
 /// Whether the image is this base heap.
@@ -52,7 +52,7 @@ pub(crate) fn is_compacted(
     threads: &(impl Threads + Sync),
 ) -> Result<bool, Fault> {
     let before = image(alloc, base, threads)?;
-    Ok(verify(alloc, &before, after, threads)? == Verdict::Same)
+    Ok(verify(alloc, &before, after, &all_processors(threads))? == Verdict::Same)
 }
 
 /// Whether each answer is `Ok(true)` or out of memory, and at least one is `Ok(true)`.
@@ -149,9 +149,9 @@ fn are_verified(
     before: &Image,
     after: &Image,
 ) -> Result<bool, Fault> {
-    let same = verify(alloc, before, after, threads)?;
-    let below = verify_below_top(alloc, before, after, threads)?;
-    let other = verify(alloc, before, before, threads)?;
+    let same = verify(alloc, before, after, &all_processors(threads))?;
+    let below = verify_below_top(alloc, before, after, &all_processors(threads))?;
+    let other = verify(alloc, before, before, &Alone)?;
     Ok((same, below, other) == (Verdict::Same, Verdict::Same, Verdict::Word(2)))
 }
 
@@ -184,7 +184,7 @@ fn explains(alloc: Global, threads: &(impl Threads + Sync), base: Base) -> Resul
         live: before.live(),
         roots: before.roots(),
     };
-    match explain(alloc, &before, found, false, threads)? {
+    match explain(alloc, &before, found, false, &all_processors(threads))? {
         Some(explanation) => Ok((explanation.count, explanation.first.len()) == (25, 10)),
         None => Ok(false),
     }

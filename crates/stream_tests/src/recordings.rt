@@ -2,7 +2,7 @@
 ghost use Rattle.std.specs.Prelude.{◌≡◌};
 
 use collector::{Verdict, verify};
-use heap_image::{Fault, Image};
+use heap_image::{Fault, Image, all_processors};
 use history::{End, Schedule, replay};
 use std::alloc::Global;
 use std::thread::Threads;
@@ -38,7 +38,7 @@ pub(crate) fn replays(
     image: &Image,
     schedule: &Schedule,
 ) -> Result<bool, Fault> {
-    let survey = Survey::of(alloc, image, threads)?;
+    let survey = Survey::of(alloc, image, &all_processors(threads))?;
     ends_compacted(alloc, image, &survey, schedule, threads)
 }
 
@@ -62,7 +62,10 @@ fn is_compacted(
     threads: &(impl Threads + Sync),
 ) -> Result<bool, Fault> {
     match ended {
-        End::Finished(after) => Ok(verify(alloc, image, after, threads)? == Verdict::Same),
+        End::Finished(after) => {
+            let verdict = verify(alloc, image, after, &all_processors(threads))?;
+            Ok(verdict == Verdict::Same)
+        }
         End::Open => Ok(false),
     }
 }

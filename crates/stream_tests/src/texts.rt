@@ -1,6 +1,6 @@
 //! Texts of the base heap and of its compactions.
 use collector::Figures;
-use heap_image::{Fault, Image, decode_by_threads, encode};
+use heap_image::{Fault, Image, all_processors, decode, encode};
 use heap_samples::{
     BASE_WORDS, Base, MOVED_LIVE, MOVED_ROOTS, MOVED_WORDS, Settings, image_text, rooted_text,
 };
@@ -47,7 +47,7 @@ fn compacted(
     text: &[u8],
     threads: &(impl Threads + Sync),
 ) -> Result<Vec<u8>, Fault> {
-    let image = decode_by_threads(alloc, text, threads)?;
+    let image = decode(alloc, text, &all_processors(threads))?;
     text_compacted(alloc, &image)
 }
 

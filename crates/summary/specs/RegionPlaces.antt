@@ -1,5 +1,5 @@
 -- What is known about the regions before their sources.
-use Rattle.std.specs.Prelude.{◌≡◌, ℕ, ◌+◌, ◌<◌, ◌≤◌, IsTrue, List, length, map, slice_index, false, None}
+use Rattle.std.specs.Prelude.{◌≡◌, ℕ, ◌+◌, ◌<◌, ◌≤◌, IsTrue, List, length, map, slice_index, slice_index_or, false, None}
 use Rattle.std.specs.List.{range_with_len}
 use Rattle.object_heap.specs.HeapImage.{HeapImage, region_words, region_count, start_of}
 use Rattle.mark_bitmap.specs.Marks.{is_begin}
@@ -26,8 +26,9 @@ module _ (image : HeapImage) where
   region_counts r = record { partial = partial_words image r; live = own_words image r }
 
   -- these are the counts of all regions
-  abbrev pub AreRegionCounts : List RegionCounts → Type 0
-  AreRegionCounts counts = counts ≡ map region_counts (range_with_len 0 (region_count image))
+  pub record AreRegionCounts (counts : List RegionCounts) : Type 0 where
+    pub number : length counts ≡ region_count image
+    pub each : (r : ℕ) (d : RegionCounts) → r < region_count image → slice_index_or counts r d ≡ region_counts r
 
   -- the data of a region, without its source
   abbrev pub placed_region : ℕ → RegionData

@@ -1,8 +1,9 @@
 //! What a collection will do to a heap: where the dense prefix ends, where each live object goes, and what each region
 //! holds and reads.
 //!
-//! [`Plan::of`] makes the plan of an image from its marks. Several threads count the regions. A plan takes memory for
-//! each region and 2 bytes for each 64 words of the heap, and keeps the live bits of the marks, too. Its queries allocate
+//! [`Plan::of`] makes the plan of an image from its marks. A [`Surveyor`] is who counts the regions: the caller
+//! [`Alone`](thread_row::Alone), or [`Many`](thread_row::Many) threads. A plan takes memory for each region and 2 bytes for
+//! each 64 words of the heap, and keeps the live bits of the marks, too. Its queries allocate
 //! nothing and are look-ups, except [`Plan::reads`], which steps from region to region. One count of bits redirects a
 //! reference, whether it is null, leads into the dense prefix or leads to an object that slides.
 //!
@@ -30,9 +31,11 @@ mod region_table;
 mod report_text;
 mod stride;
 mod survey;
+mod surveyor;
 
 pub use plan::{Plan, report};
 pub use reads::Reads;
 pub use region_data::RegionData;
 pub use stride::{FILLER_STRIDE, filler_limit};
 pub use survey::Survey;
+pub use surveyor::Surveyor;

@@ -8,11 +8,10 @@ ghost use Rattle.summary.specs.WordMoves.{slid};
 ghost use Rattle.summary.specs.NewAddresses.{prefix_end, new_address, new_top};
 ghost use Rattle.summary.specs.Compaction.{redirected};
 ghost use Rattle.summary.specs.RegionData.{region_data, deferred, fill_count};
-ghost use Rattle.summary.specs.RegionPlaces.{AreRegionCounts};
 ghost use Rattle.summary.specs.Plan.{sources, sources_from};
 ghost use Rattle.summary.specs.Report.{report};
 
-mod counting;
+pub(crate) mod counting;
 mod deferred;
 mod ranks;
 mod redirections;
@@ -24,17 +23,15 @@ use crate::reads::Reads;
 use crate::region_data::RegionData;
 use crate::region_table::RegionTable;
 use crate::report_text::report_of_table;
-use counting::{count_regions, count_regions_alone};
+use crate::surveyor::Surveyor;
+use counting::count_regions;
 use deferred::deferred_places;
 use heap_image::{Fault, Image};
 use mark_bitmap::Marks;
 use raw_region::Region;
-use rayon::current_num_threads;
 use redirections::Redirections;
-use region_counts::RegionCounts;
 use std::alloc::{AllocError, Global};
 use std::marker::Model;
-use std::thread::Threads;
 
 /// What a collection will do to an image: what each region holds and reads, and where each live object goes.
 ///
@@ -68,61 +65,22 @@ impl Model for Plan {
 }
 
 impl Plan {
-    /// Makes the plan of an image with these marks. At most one thread per processor counts the regions.
+    /// Makes the plan of an image with these marks. The surveyor's threads count the regions.
     ///
     /// The only error is [`Fault::Memory`], if an allocation fails.
-    pub fn of(
+    pub fn of<S: Surveyor>(
         alloc: Global,
         image: &Image,
         marks: &Marks,
-        threads: &(impl Threads + Sync),
+        surveyor: &S,
     ) -> Result<Plan, Fault>
-        requires { marks.now ≡ image.now }
-        ensures plan { IfOk result (λ plan. plan ≡ image.now) }
-        ensures fault { IfErr result (λ fault. fault ≡ Memory) }
-    {
-        Plan::by_workers(alloc, image, marks, current_num_threads(threads), threads)
-    }
-
-    /// Like [`of`](Plan::of), with at most `workers` threads, the caller included; 0 means 1.
-    pub fn by_workers(
-        alloc: Global,
-        image: &Image,
-        marks: &Marks,
-        workers: usize,
-        threads: &(impl Threads + Sync),
-    ) -> Result<Plan, Fault>
-        requires { marks.now ≡ image.now }
-        ensures plan { IfOk result (λ plan. plan ≡ image.now) }
-        ensures fault { IfErr result (λ fault. fault ≡ Memory) }
-    {
-        let counts = count_regions(alloc, image, marks, workers, threads)?;
-        Plan::with_counts(alloc, image, marks, counts.as_slice())
-    }
-
-    /// Like [`of`](Plan::of), in the caller's thread alone.
-    pub fn alone(alloc: Global, image: &Image, marks: &Marks) -> Result<Plan, Fault>
-        requires { marks.now ≡ image.now }
-        ensures plan { IfOk result (λ plan. plan ≡ image.now) }
-        ensures fault { IfErr result (λ fault. fault ≡ Memory) }
-    {
-        let counts = count_regions_alone(alloc, image, marks)?;
-        Plan::with_counts(alloc, image, marks, counts.as_slice())
-    }
-
-    /// Makes the plan of an image from its marks and the counts of its regions.
-    fn with_counts(
-        alloc: Global,
-        image: &Image,
-        marks: &Marks,
-        counts: &[RegionCounts],
-    ) -> Result<Plan, Fault>
+        requires start { S.may_start }
         requires marks { marks.now ≡ image.now }
-        requires counts { AreRegionCounts image.now counts.now }
         ensures plan { IfOk result (λ plan. plan ≡ image.now) }
         ensures fault { IfErr result (λ fault. fault ≡ Memory) }
     {
-        let table = RegionTable::of(alloc, image, counts)?;
+        let counts = count_regions(alloc, image, marks, surveyor)?;
+        let table = RegionTable::of(alloc, image, counts.as_slice())?;
         let redirections = Redirections::of(alloc, image, marks, table.prefix_end())?;
         let deferred = deferred_places(alloc, image, marks, &redirections)?;
         Ok(Plan {
@@ -181,9 +139,9 @@ impl Plan {
         self.table.regions()[r as usize].to_data()
     }
 
-    /// The new address of the live object at `a`. The marks are not looked at: the plan knows it by itself.
+    /// The new address of the live object at `a`.
     #[inline]
-    pub fn new_address(&self, _marks: &Marks, a: u64) -> u64
+    pub fn new_address(&self, a: u64) -> u64
         requires { Contains self.now.live a }
         ensures { result ≡ new_address self.now a }
     {

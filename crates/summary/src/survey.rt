@@ -3,12 +3,11 @@ ghost use Rattle.std.specs.Prelude.{◌≡◌, IfOk, IfErr};
 ghost use Rattle.image_streams.specs.declared.fault.Fault.TheVariants.{Memory};
 
 use crate::plan::Plan;
+use crate::surveyor::Surveyor;
 use heap_image::{Fault, Image};
 use mark_bitmap::Marks;
-use rayon::current_num_threads;
 use std::alloc::Global;
 use std::marker::Model;
-use std::thread::Threads;
 
 /// What is known about an image before anything moves: its marks, and the plan of its collection.
 ///
@@ -36,60 +35,48 @@ impl Model for Survey {
 }
 
 impl Survey {
-    /// Surveys an image. At most one thread per processor makes the marks and counts the regions.
+    /// Surveys an image. The surveyor's threads make the marks and count the regions.
     ///
     /// The only error is [`Fault::Memory`], if an allocation fails.
-    pub fn of(
-        alloc: Global,
-        image: &Image,
-        threads: &(impl Threads + Sync),
-    ) -> Result<Survey, Fault>
+    pub fn of<S: Surveyor>(alloc: Global, image: &Image, surveyor: &S) -> Result<Survey, Fault>
+        requires { S.may_start }
         ensures survey { IfOk result (λ survey. survey ≡ image.now) }
         ensures fault { IfErr result (λ fault. fault ≡ Memory) }
     {
-        Survey::by_workers(alloc, image, current_num_threads(threads), threads)
+        let marks = Marks::of(alloc, image, surveyor)?;
+        Survey::with_marks(alloc, image, marks, surveyor)
     }
 
-    /// Like [`of`](Survey::of), with at most `workers` threads, the caller included; 0 means 1.
-    pub fn by_workers(
+    /// Like [`of`](Survey::of), but the marks take over the bits that reading the image has kept, if it has. What else it
+    /// kept is freed then, which leaves its memory to the plan. The image itself doesn't change.
+    pub fn taking_over<S: Surveyor>(
         alloc: Global,
-        image: &Image,
-        workers: usize,
-        threads: &(impl Threads + Sync),
+        image: &mut Image,
+        surveyor: &S,
     ) -> Result<Survey, Fault>
-        ensures survey { IfOk result (λ survey. survey ≡ image.now) }
+        requires { S.may_start }
+        ensures survey { IfOk result (λ survey. survey ≡ image.old) }
+        ensures same { image.new ≡ image.old }
         ensures fault { IfErr result (λ fault. fault ≡ Memory) }
     {
-        let marks = Marks::by_workers(alloc, image, workers, threads)?;
-        Survey::with_marks(alloc, image, marks, workers, threads)
+        let marks = Marks::taking_over(alloc, image, surveyor)?;
+        image.forget_seen();
+        Survey::with_marks(alloc, image, marks, surveyor)
     }
 
-    /// Surveys an image whose marks exist already. At most `workers` threads, the caller included, count the regions; 0
-    /// means 1.
-    ///
-    /// The only error is [`Fault::Memory`], if an allocation fails.
-    pub fn with_marks(
+    /// Surveys an image with these marks.
+    fn with_marks<S: Surveyor>(
         alloc: Global,
         image: &Image,
         marks: Marks,
-        workers: usize,
-        threads: &(impl Threads + Sync),
+        surveyor: &S,
     ) -> Result<Survey, Fault>
-        requires { marks ≡ image.now }
+        requires start { S.may_start }
+        requires marks { marks ≡ image.now }
         ensures survey { IfOk result (λ survey. survey ≡ image.now) }
         ensures fault { IfErr result (λ fault. fault ≡ Memory) }
     {
-        let plan = Plan::by_workers(alloc, image, &marks, workers, threads)?;
-        Ok(Survey { marks, plan })
-    }
-
-    /// Like [`of`](Survey::of), in the caller's thread alone.
-    pub fn alone(alloc: Global, image: &Image) -> Result<Survey, Fault>
-        ensures survey { IfOk result (λ survey. survey ≡ image.now) }
-        ensures fault { IfErr result (λ fault. fault ≡ Memory) }
-    {
-        let marks = Marks::of(alloc, image)?;
-        let plan = Plan::alone(alloc, image, &marks)?;
+        let plan = Plan::of(alloc, image, &marks, surveyor)?;
         Ok(Survey { marks, plan })
     }
 

@@ -1,6 +1,6 @@
 pub mod Joined
 pub mod Gaps
-pub mod FirstPlace
+pub mod Searching
 pub mod Placing
 pub mod Strides
 pub mod Telling

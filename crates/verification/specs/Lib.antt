@@ -3,3 +3,4 @@ pub mod Tally
 pub mod Verdict
 pub mod Explanation
 pub mod Compared
+pub mod Searched

@@ -1,18 +1,18 @@
-ghost use Rattle.std.specs.Prelude.{◌≡◌, ◌≢◌, ◌+◌, ◌<◌, ◌≤◌, ◌↔◌, IsTrue, MatchBool, MatchOption, Contains};
-ghost use Rattle.object_heap.specs.HeapImage.{heap_words, word_at, size_at, references_at, is_null_or_live};
+ghost use Rattle.std.specs.Prelude.{◌≡◌, ◌+◌, ◌<◌, ◌≤◌, ◌↔◌, IsTrue, MatchBool, MatchOption};
+ghost use Rattle.object_heap.specs.HeapImage.{heap_words, word_at, size_at, references_at};
 ghost use Rattle.summary.specs.LiveObjects.{object_count, object_at};
 ghost use Rattle.summary.specs.NewAddresses.{new_address, new_top};
 ghost use Rattle.summary.specs.Fillers.{IsDeadRun};
 ghost use Rattle.summary.specs.Compaction.{redirected, compact};
-ghost use Rattle.verification.specs.Difference.{AreAlike, IsLeastDifference};
 ghost use Rattle.verification.specs.Compared.{IsGap, AreCompacted, IsObjectCompacted, IsFirstOther, IsPlaced, AreKnown, behind, new_ends};
+ghost use Rattle.verification.specs.Searched.{IsItemAlike, IsFirstIn, IsFirstOfShare, IsFirstFound, item_count};
 ghost use Rattle.verification.specs.Verdict.{IsVerdict, IsVerdictBelow, IsVerdictOnLists, HaveSameShape, root_count, root_at};
 
 use crate::difference::{first_nonzero, first_unlike};
+use crate::items::Items;
 use crate::verdict::Verdict;
+use crate::verifier::Verifier;
 use heap_image::{Image, header, image_is_valid};
-use rayon::prelude::*;
-use std::thread::Threads;
 use summary::laws::compaction::{blocks_of_regions, compaction_by_objects};
 use summary::laws::dense_prefix::{fillers_by_runs, prefix_end_is_greatest};
 use summary::laws::live_words::words_of_objects;
@@ -23,24 +23,31 @@ use summary::laws::plans::image_is_own;
 use summary::laws::region_data::regions_to_fill;
 use summary::{Survey, filler_limit};
 
+/// The most shares of a search.
+const MOST_SHARES: usize = 64;
+
+/// The least number of items that is worth a thread.
+const LEAST_ITEMS: usize = 1_024;
+
 /// An image, and the one whose compaction it should be.
 #[derive(Drop)]
-pub(crate) struct Comparison<'a> {
-    before: &'a Image,
-    after: &'a Image,
-    survey: &'a Survey,
+pub struct Comparison<'a> {
+    pub before: &'a Image,
+    pub after: &'a Image,
+    pub survey: &'a Survey,
     ghost survey_of: { survey.now ≡ before.now },
-    ghost room: { heap_words after.now ≡ heap_words before.now },
+    ghost shape: { HaveSameShape before.now after.now },
 }
 
 impl Comparison<'_> {
     /// The first difference between `after` and the compaction of `before`. `survey` is the survey of `before`.
-    pub(crate) fn verdict(
+    pub(crate) fn verdict<V: Verifier>(
         before: &Image,
         after: &Image,
         survey: &Survey,
-        threads: &(impl Threads + Sync),
+        verifier: &V,
     ) -> Verdict
+        requires start { V.may_start }
         requires survey { survey.now ≡ before.now }
         ensures { IsVerdict (compact before.now) after.now result }
     {
@@ -53,19 +60,20 @@ impl Comparison<'_> {
             after,
             survey,
         };
-        match comparison.other_word(threads) {
+        match comparison.other_word(verifier) {
             Some(a) => Verdict::Word(a),
-            None => comparison.verdict_on_lists(threads),
+            None => comparison.verdict_on_lists(verifier),
         }
     }
 
     /// The same as [`verdict`](Comparison::verdict), but words at or above the new top count as equal.
-    pub(crate) fn verdict_below_top(
+    pub(crate) fn verdict_below_top<V: Verifier>(
         before: &Image,
         after: &Image,
         survey: &Survey,
-        threads: &(impl Threads + Sync),
+        verifier: &V,
     ) -> Verdict
+        requires start { V.may_start }
         requires survey { survey.now ≡ before.now }
         ensures { IsVerdictBelow (new_top before.now) (compact before.now) after.now result }
     {
@@ -78,72 +86,135 @@ impl Comparison<'_> {
             after,
             survey,
         };
-        match comparison.other_below_top(threads) {
+        match comparison.other_below_top(verifier) {
             Some(a) => Verdict::Word(a),
-            None => comparison.verdict_on_lists(threads),
+            None => comparison.verdict_on_lists(verifier),
         }
     }
 
     /// The verdict on the live lists and the roots alone.
-    fn verdict_on_lists(&self, threads: &(impl Threads + Sync)) -> Verdict
-        requires { HaveSameShape self.now.before.now self.now.after.now }
+    fn verdict_on_lists<V: Verifier>(&self, verifier: &V) -> Verdict
+        requires { V.may_start }
         ensures { IsVerdictOnLists (compact self.now.before.now) self.now.after.now result }
     {
         blocks_of_regions();
-        if let Some(i) = self.other_live(threads) {
-            return Verdict::Live(i);
+        if let Some(i) = self.first_other(verifier, Items::Live) {
+            return Verdict::Live(i as u64);
         }
-        match self.other_root(threads) {
-            Some(i) => Verdict::Root(i),
+        match self.first_other(verifier, Items::Roots) {
+            Some(i) => Verdict::Root(i as u64),
             None => Verdict::Same,
         }
     }
 
     /// The lowest address below the new top whose word differs from the compaction's.
-    fn other_below_top(&self, threads: &(impl Threads + Sync)) -> Option<u64>
+    fn other_below_top<V: Verifier>(&self, verifier: &V) -> Option<u64>
+        requires { V.may_start }
         ensures { MatchOption result
             (AreCompacted self.now.before.now self.now.after.now 0 (new_top self.now.before.now))
             (IsFirstOther self.now.before.now self.now.after.now 0 (new_top self.now.before.now)) }
     {
         objects_are_placed(self.before);
         let top = self.survey.plan().new_top();
-        match self.other_word(threads) {
+        match self.other_word(verifier) {
             Some(a) if a < top => Some(a),
             _ => None,
         }
     }
 
     /// The lowest address whose word differs from the compaction's.
-    fn other_word(&self, threads: &(impl Threads + Sync)) -> Option<u64>
+    fn other_word<V: Verifier>(&self, verifier: &V) -> Option<u64>
+        requires { V.may_start }
         ensures { MatchOption result
             (AreCompacted self.now.before.now self.now.after.now 0 (heap_words self.now.before.now))
             (IsFirstOther self.now.before.now self.now.after.now 0 (heap_words self.now.before.now)) }
     {
         objects_are_placed(self.before);
-        let (before, after, survey) = (self.before, self.after, self.survey);
-        let count = before.live().len();
-        let other = (0..count).into_par_iter().position_first(
-            threads,
-            |i: usize| -> bool
-                requires survey { survey.now ≡ before.now }
-                requires room { heap_words after.now ≡ heap_words before.now }
-                requires inside { i < object_count before.now }
-                ensures { MatchBool result
-                    (¬ (IsObjectCompacted before.entry.now after.entry.now i))
-                    (IsObjectCompacted before.entry.now after.entry.now i) }
-            {
-                let comparison = Comparison {
-                    before,
-                    after,
-                    survey,
-                };
-                comparison.other_at(i).is_some()
-            },
-        );
-        match other {
+        match self.first_other(verifier, Items::Objects) {
             Some(i) => self.other_at(i),
-            None => self.other_above(self.end_before(count)),
+            None => self.other_above(self.end_before(self.before.live().len())),
         }
+    }
+
+    /// The index of the first of these items that differs from the compaction's.
+    fn first_other<V: Verifier>(&self, verifier: &V, items: Items) -> Option<usize>
+        requires { V.may_start }
+        ensures { IsFirstIn (IsItemAlike items self.now.before.now self.now.after.now)
+            0 (item_count items self.now.before.now) result }
+    {
+        let count = self.count(items);
+        let shares = share_count(count, verifier.most());
+        let share = count.div_ceil(shares);
+        let mut found = [None; MOST_SHARES];
+        let found = &mut found[..shares];
+        verifier.search(self, items, share, found);
+        first_found(found)
+    }
+
+    /// The first of these items that differs, of the `share` items from index `share * k` on.
+    pub(crate) fn other_in_share(&self, items: Items, share: usize, k: usize) -> Option<usize>
+        ensures { IsFirstOfShare items self.now.before.now self.now.after.now share k result }
+    {
+        let count = self.count(items);
+        let from = share.saturating_mul(k).min(count);
+        let to = from.saturating_add(share).min(count);
+        self.first_between(items, from, to)
+    }
+
+    /// The first of these items that differs, from one index up to another.
+    fn first_between(&self, items: Items, from: usize, to: usize) -> Option<usize>
+        requires { to ≤ item_count items self.now.before.now }
+        ensures { IsFirstIn (IsItemAlike items self.now.before.now self.now.after.now) from to result }
+    {
+        for i in from..to {
+            if self.is_other(items, i) {
+                return Some(i);
+            }
+        }
+        None
+    }
+
+    /// The number of these items.
+    fn count(&self, items: Items) -> usize
+        ensures { result ≡ item_count items self.now.before.now }
+    {
+        match items {
+            Items::Objects | Items::Live => self.before.live().len(),
+            Items::Roots => self.before.roots().len(),
+        }
+    }
+
+    /// Whether the `i`-th of these items differs from the compaction's.
+    fn is_other(&self, items: Items, i: usize) -> bool
+        requires { i < item_count items self.now.before.now }
+        ensures { MatchBool result
+            (¬ (IsItemAlike items self.now.before.now self.now.after.now i))
+            (IsItemAlike items self.now.before.now self.now.after.now i) }
+    {
+        match items {
+            Items::Objects => self.other_at(i).is_some(),
+            Items::Live => !self.is_live_alike(i),
+            Items::Roots => !self.is_root_alike(i),
+        }
+    }
+
+    /// Whether the `i`-th live address is the compaction's.
+    fn is_live_alike(&self, i: usize) -> bool
+        requires { i < object_count self.now.before.now }
+        ensures { IsTrue result
+            ↔ object_at self.now.after.now i ≡ new_address self.now.before.now (object_at self.now.before.now i) }
+    {
+        let a = self.before.live()[i];
+        self.after.live()[i] == self.survey.plan().new_address(a)
+    }
+
+    /// Whether the `i`-th root is the compaction's.
+    fn is_root_alike(&self, i: usize) -> bool
+        requires { i < root_count self.now.before.now }
+        ensures { IsTrue result
+            ↔ root_at self.now.after.now i ≡ redirected self.now.before.now (root_at self.now.before.now i) }
+    {
+        self.after.roots()[i] == self.survey.plan().redirected(self.before.roots()[i])
     }
 
     /// The same in the `i`-th live object, and in the dead words before it.
@@ -157,7 +228,7 @@ impl Comparison<'_> {
         objects_are_placed(self.before);
         let a = self.before.live()[i];
         let next = self.end_before(i);
-        let place = self.survey.plan().new_address(self.survey.marks(), a);
+        let place = self.survey.plan().new_address(a);
         match self.other_in_gap(next, place) {
             Some(p) => Some(p),
             None => self.other_in_object(a, place),
@@ -174,7 +245,7 @@ impl Comparison<'_> {
             return 0;
         }
         let a = self.before.live()[i - 1];
-        let place = self.survey.plan().new_address(self.survey.marks(), a);
+        let place = self.survey.plan().new_address(a);
         place + self.before.size_at(a)
     }
 
@@ -279,81 +350,26 @@ impl Comparison<'_> {
         let j = first_nonzero(self.after, top, self.before.len() - top)?;
         Some(top + j)
     }
-
-    /// The lowest index at which the live list differs from the compaction's.
-    fn other_live(&self, threads: &(impl Threads + Sync)) -> Option<u64>
-        requires { object_count self.now.after.now ≡ object_count self.now.before.now }
-        ensures { MatchOption result
-            (AreAlike (λ i. new_address self.now.before.now (object_at self.now.before.now i))
-            (object_at self.now.after.now) (object_count self.now.before.now))
-            (IsLeastDifference (λ i. new_address self.now.before.now (object_at self.now.before.now i))
-            (object_at self.now.after.now) (object_count self.now.before.now)) }
-    {
-        let (before, after, survey) = (self.before, self.after, self.survey);
-        let other = (0..before.live().len()).into_par_iter().position_first(
-            threads,
-            |i: usize| -> bool
-                requires survey { survey.now ≡ before.now }
-                requires same { object_count after.now ≡ object_count before.now }
-                requires inside { i < object_count before.now }
-                ensures { MatchBool result
-                    (object_at after.entry.now i ≢ new_address before.entry.now (object_at before.entry.now i))
-                    (object_at after.entry.now i ≡ new_address before.entry.now (object_at before.entry.now i)) }
-            { !is_live_alike(before, after, survey, i) },
-        );
-        match other {
-            Some(i) => Some(i as u64),
-            None => None,
-        }
-    }
-
-    /// The lowest index at which the roots differ from the compaction's.
-    fn other_root(&self, threads: &(impl Threads + Sync)) -> Option<u64>
-        requires { root_count self.now.after.now ≡ root_count self.now.before.now }
-        ensures { MatchOption result
-            (AreAlike (λ i. redirected self.now.before.now (root_at self.now.before.now i))
-            (root_at self.now.after.now) (root_count self.now.before.now))
-            (IsLeastDifference (λ i. redirected self.now.before.now (root_at self.now.before.now i))
-            (root_at self.now.after.now) (root_count self.now.before.now)) }
-    {
-        let (before, after, survey) = (self.before, self.after, self.survey);
-        let other = (0..before.roots().len()).into_par_iter().position_first(
-            threads,
-            |i: usize| -> bool
-                requires survey { survey.now ≡ before.now }
-                requires same { root_count after.now ≡ root_count before.now }
-                requires inside { i < root_count before.now }
-                ensures { MatchBool result
-                    (root_at after.entry.now i ≢ redirected before.entry.now (root_at before.entry.now i))
-                    (root_at after.entry.now i ≡ redirected before.entry.now (root_at before.entry.now i)) }
-            { !is_root_alike(before, after, survey, i) },
-        );
-        match other {
-            Some(i) => Some(i as u64),
-            None => None,
-        }
-    }
 }
 
-/// Whether the `i`-th live address is the compaction's.
-fn is_live_alike(before: &Image, after: &Image, survey: &Survey, i: usize) -> bool
-    requires survey { survey.now ≡ before.now }
-    requires same { object_count after.now ≡ object_count before.now }
-    requires inside { i < object_count before.now }
-    ensures { IsTrue result ↔ object_at after.now i ≡ new_address before.now (object_at before.now i) }
+/// The first of the indices that were found.
+fn first_found(found: &[Option<usize>]) -> Option<usize>
+    ensures { IsFirstFound found.now result }
 {
-    let a = before.live()[i];
-    after.live()[i] == survey.plan().new_address(survey.marks(), a)
+    for &first in found {
+        if first.is_some() {
+            return first;
+        }
+    }
+    None
 }
 
-/// Whether the `i`-th root is the compaction's.
-fn is_root_alike(before: &Image, after: &Image, survey: &Survey, i: usize) -> bool
-    requires survey { survey.now ≡ before.now }
-    requires same { root_count after.now ≡ root_count before.now }
-    requires inside { i < root_count before.now }
-    ensures { IsTrue result ↔ root_at after.now i ≡ redirected before.now (root_at before.now i) }
+/// The number of shares into which to part this number of items, at most `most`.
+fn share_count(items: usize, most: usize) -> usize
+    ensures some { 0 < result }
+    ensures few { result ≤ 64 }
 {
-    after.roots()[i] == survey.plan().redirected(before.roots()[i])
+    most.min(items / LEAST_ITEMS).clamp(1, MOST_SHARES)
 }
 
 /// A law: where the live objects of an image go.

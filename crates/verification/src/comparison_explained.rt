@@ -16,9 +16,9 @@ use crate::difference_tally::{OtherWord, Tally};
 use crate::verdict_explanation::{
     ExplainedWord, Explanation, Lead, Moved, OtherLive, OtherRoot, Part,
 };
+use crate::verifier::Verifier;
 use heap_image::{Fault, Heap, Image, header, image_is_valid};
 use std::alloc::{AllocError, Global};
-use std::thread::Threads;
 use summary::laws::compaction::compaction_by_objects;
 use summary::laws::dense_prefix::fillers_by_runs;
 use summary::{Survey, filler_limit};
@@ -29,13 +29,14 @@ use summary::{Survey, filler_limit};
 /// `None` if the heaps have different numbers of words.
 ///
 /// Takes linear time. The only error is `Fault::Memory`, if memory runs out.
-pub fn explain(
+pub fn explain<V: Verifier>(
     alloc: Global,
     before: &Image,
     after: Found<'_>,
     below_top: bool,
-    threads: &(impl Threads + Sync),
+    verifier: &V,
 ) -> Result<Option<Explanation>, Fault>
+    requires start { V.may_start }
     ensures explanation { IfOk result (λ found. MatchOption found
         (heap_words after.entry.heap.now ≡ heap_words before.now → ⊥)
         (IsExplanation before.now after.entry.heap.now after.entry.live.now after.entry.roots.now
@@ -45,7 +46,7 @@ pub fn explain(
     if after.heap.len() != before.len() {
         return Ok(None);
     }
-    let survey = Survey::of(alloc, before, threads)?;
+    let survey = Survey::of(alloc, before, verifier)?;
     let words = WordComparison {
         before,
         after: after.heap,
@@ -124,7 +125,7 @@ impl WordComparison<'_> {
         let mut tally = Tally::new(alloc);
         let mut next = 0;
         for &a in self.before.live() {
-            let place = self.survey.plan().new_address(self.survey.marks(), a);
+            let place = self.survey.plan().new_address(a);
             self.compare_gap(&mut tally, next, place)?;
             self.compare_object(&mut tally, a, place)?;
             next = place + self.before.size_at(a);
@@ -275,7 +276,7 @@ impl WordComparison<'_> {
     {
         let live = self.before.live();
         for i in 0..live.len().min(found.len()) {
-            let expected = self.survey.plan().new_address(self.survey.marks(), live[i]);
+            let expected = self.survey.plan().new_address(live[i]);
             let other = found[i];
             if other != expected {
                 return Some(OtherLive {
@@ -319,7 +320,7 @@ impl WordComparison<'_> {
     {
         objects_are_placed(self.before);
         for &a in self.before.live() {
-            let place = self.survey.plan().new_address(self.survey.marks(), a);
+            let place = self.survey.plan().new_address(a);
             if place <= p && p - place < self.before.size_at(a) {
                 let moved = Moved { old: a, new: place };
                 return part_of(moved, p - place, self.before.references_at(a));

@@ -5,6 +5,8 @@
 //! - [`explain`] says which words differ from the compaction's, in which objects, and where wrong references lead, also
 //!   for the words of a file that is no valid image.
 //!
+//! Each is done by a [`Verifier`]: several threads, or the caller's alone.
+//!
 //! # What is proved
 //!
 //! `verify` returns `Same` exactly if the second image is the compaction of the first by the definitions of `summary`,
@@ -20,8 +22,10 @@ mod comparison;
 mod comparison_explained;
 mod difference;
 mod difference_tally;
+mod items;
 mod verdict;
 mod verdict_explanation;
+mod verifier;
 mod verifying;
 
 pub use comparison_explained::{Found, explain};
@@ -30,4 +34,5 @@ pub use verdict::Verdict;
 pub use verdict_explanation::{
     ExplainedWord, Explanation, Lead, Moved, OtherLive, OtherRoot, Part,
 };
+pub use verifier::Verifier;
 pub use verifying::{verify, verify_below_top};

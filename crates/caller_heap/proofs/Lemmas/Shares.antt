@@ -1,6 +1,6 @@
 -- Shares of one session.
-use Rattle.std.proofs.Common.{◌≡◌, ◌⊎◌, inl, List, [], ◌∷◌, ◌++◌, ◌∙◌, subst, Result, Ok, Err}
-use Rattle.std.specs.Prelude.{All, Option, Some, None, IfSome, IfOk, OnOk}
+use Rattle.std.proofs.Common.{◌≡◌, ◌⊎◌, inl, List, [], ◌∷◌, ◌++◌, ◌∙◌, subst}
+use Rattle.std.specs.Prelude.{All, Option, Some, None, IfSome}
 use Rattle.std.proofs.lemmas.List.Elements.{All-pop}
 use Rattle.object_heap.specs.HeapImage.{HeapImage}
 use Rattle.image_streams.specs.declared.fault.Fault.TheVariants.{Memory, Workers}
@@ -22,8 +22,3 @@ pub kept_image : (refusal : Refusal) (back : Option HeapImage) (image : HeapImag
     → IfKept refusal (λ given fault. (given ≡ image) × ((fault ≡ Memory) ⊎ (fault ≡ Workers)))
 kept_image (Kept given fault) back image kept is = (subst (λ b. IfSome b (λ g. g ≡ image)) kept.1 is, inl kept.0)
 kept_image (Lost fault) back image kept is = tt
-
--- facts of a result that is good, together
-pub all_ok : {X E : Type 0} (result : Result X E) (A B : Type 0) (P : X → Type 0) → OnOk result A → OnOk result B → IfOk result P → IfOk result (λ x. A × B × P x)
-all_ok (Ok x) A B P a b p = (a, b, p)
-all_ok (Err y) A B P a b p = tt

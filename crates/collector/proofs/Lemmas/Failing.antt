@@ -12,7 +12,7 @@ use Rattle.collector.specs.Halts.{MayHalt, MayRefuse, IsLostTo}
 
 -- a worker that failed has its fault in the list
 abbrev pub HasFailed : {S : Type 0} → List (Worker S) → Fault → Type 0
-HasFailed {S = S} workers fault = (k : ℕ) × (w : Worker S) × (k < length workers) × (get_or workers k w ≡ w) × (w.end ≡ Err (Failed fault))
+HasFailed {S = S} workers fault = (k : ℕ) × (w : Worker S) × (k < length workers) × (get_or workers k w ≡ w) × (w.result ≡ Err (Failed fault))
 
 -- the front of a longer list
 pub front_of : {X : Type 0} (n : ℕ) (xs rest : List X) → n ≡ length xs → take n (xs ++ rest) ≡ xs
@@ -20,10 +20,10 @@ front_of n xs rest whole = ap (λ (k : ℕ). take k (xs ++ rest)) whole ∙ take
 
 -- a fault that a worker met has one of the causes of a halt
 pub cause_of : {S : Type 0} (may_fail : Fault → Type 0) (may_refuse : ℕ → Type 0) (regions : ℕ) (workers : List (Worker S)) (fault : Fault)
-    → All (λ w. IfErr w.end (MayHalt may_fail may_refuse regions)) workers → HasFailed workers fault → MayHalt may_fail may_refuse regions (Failed fault)
+    → All (λ w. IfErr w.result (MayHalt may_fail may_refuse regions)) workers → HasFailed workers fault → MayHalt may_fail may_refuse regions (Failed fault)
 cause_of {S = S} may_fail may_refuse regions workers fault causes failed =
     subst (λ e. IfErr e (MayHalt may_fail may_refuse regions)) failed.4
-    (subst (λ (w : Worker S). IfErr w.end (MayHalt may_fail may_refuse regions)) failed.3 (causes failed.0 failed.1 failed.2))
+    (subst (λ (w : Worker S). IfErr w.result (MayHalt may_fail may_refuse regions)) failed.3 (causes failed.0 failed.1 failed.2))
 
 -- if it is the gate's, and no fault of the desk, the gate may refuse
 pub refused_by : (may_fail : Fault → Type 0) (may_refuse : ℕ → ℕ → Type 0) (workers : ℕ) (image : HeapImage) (fault : Fault) → fault ≡ Gate

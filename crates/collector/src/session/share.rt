@@ -21,23 +21,14 @@ use std::sync::Arc;
 use std::sync::atomic::Ordering;
 
 /// One worker's part in a session, which one thread at a time may use.
+#[derive(Drop)]
 pub struct Share {
     pub(crate) session: Arc<Session, Global>,
     worker: Worker<Pass>,
     number: u32,
-    ghost seat: { board_of worker.seat ≡ identity (arc_value session).desk },
-    ghost numbered: { number < vec_len (arc_value session).thieves },
-    ghost end: { may_end worker.end ≡ true },
-}
-
-impl Drop for Share {
-    fn drop(self) {
-        let Self {
-            session,
-            worker,
-            number,
-        } = self;
-    }
+    ghost seat: { board_of worker.seat ≡ identity (arc_value session).shared.desk },
+    ghost numbered: { number < vec_len (arc_value session).shared.thieves },
+    ghost end: { may_end worker.result ≡ true },
 }
 
 impl Share {
@@ -46,11 +37,11 @@ impl Share {
     /// The part of this worker, which has not begun.
     #[tactic(auto, unfolding(crate::specs::Ends::may_end))]
     pub(crate) fn new(session: Arc<Session, Global>, mut worker: Worker<Pass>, number: u32) -> Share
-        requires seat { board_of worker.seat ≡ identity (arc_value session).desk }
-        requires numbered { number < vec_len (arc_value session).thieves }
+        requires seat { board_of worker.seat ≡ identity (arc_value session).shared.desk }
+        requires numbered { number < vec_len (arc_value session).shared.thieves }
         ensures { result.session ≡ session }
     {
-        worker.end = Err(Halt::Stopped);
+        worker.result = Err(Halt::Stopped);
         Share {
             session,
             worker,
@@ -71,7 +62,7 @@ impl Share {
             return Err(Halt::Failed(fault));
         }
         let session: &Session = &self.session;
-        session.fill_ready(self.number, &mut self.worker, turns)
+        session.work(self.number, &mut self.worker, turns)
     }
 
     /// Fills regions until all are settled, and spins while none is ready. Allocates nothing. Fails as
@@ -100,7 +91,7 @@ impl Share {
         ensures figures { IfOk result (λ outcome. outcome.figures ≡ figures_of (image_of self)) }
         ensures fault { IfErr result (λ fault. (fault ≡ Fault.Workers) ⊎ IsOverwritten fault) }
     {
-        if self.session.thieves.len() != others.len() + 1 {
+        if self.session.shared.thieves.len() != others.len() + 1 {
             return Err(Fault::Workers);
         }
         if let Some(fault) = first_fault(others.as_slice()) {
@@ -118,19 +109,14 @@ impl Share {
     pub fn give_back(self) -> Option<Image>
         ensures { IfSome result (λ image. image ≡ image_of self) }
     {
-        let Share {
-            session,
-            worker: _,
-            number: _,
-        } = self;
-        image_of_last(session)
+        image_of_last(self.session)
     }
 
     /// How many regions the heap of the session has.
     pub fn regions(&self) -> u32
         ensures { result ≡ region_count (image_of self.now) }
     {
-        self.session.regions()
+        self.session.shared.survey.plan().regions()
     }
 
     /// How many live addresses the session's image has in version 1, otherwise how many roots.
@@ -140,20 +126,20 @@ impl Share {
         self.session.numbers
     }
 
-    /// Counts this share among those that its session's owner has at hand.
+    /// Counts this share as presented to end its session.
     pub fn count_in(&self) {
-        self.session.at_hand.fetch_add(1, Ordering::SeqCst);
+        self.session.presented.fetch_add(1, Ordering::SeqCst);
     }
 
     /// Takes this share out of that count.
     pub fn count_out(&self) {
-        self.session.at_hand.fetch_sub(1, Ordering::SeqCst);
+        self.session.presented.fetch_sub(1, Ordering::SeqCst);
     }
 
-    /// Whether just so many shares are counted, and they are all of the session.
+    /// Whether exactly `shares` shares are counted, and the session has no other.
     pub fn are_all_counted(&self, shares: usize) -> bool {
-        self.session.at_hand.load(Ordering::SeqCst) == shares
-            && self.session.thieves.len() == shares
+        self.session.presented.load(Ordering::SeqCst) == shares
+            && self.session.shared.thieves.len() == shares
     }
 
     /// Ends the session whose last share this is.
@@ -162,12 +148,7 @@ impl Share {
         ensures figures { IfOk result (λ outcome. outcome.figures ≡ figures_of (image_of self)) }
         ensures fault { IfErr result (λ fault. (fault ≡ Fault.Workers) ⊎ IsOverwritten fault) }
     {
-        let Share {
-            session,
-            worker: _,
-            number: _,
-        } = self;
-        match Arc::try_unwrap(session) {
+        match Arc::try_unwrap(self.session) {
             Ok(session) => session.clean_up(),
             Err(_) => Err(Fault::Workers),
         }

@@ -64,8 +64,15 @@ impl StartLine {
         self.open_to_all();
     }
 
+    /// Opens the line to a worker that has no others beside it.
+    pub(crate) fn open_if(&self, is_alone: bool) {
+        if is_alone {
+            self.open_to_all();
+        }
+    }
+
     /// Opens the line, whoever has arrived.
-    pub(crate) fn open_to_all(&self) {
+    fn open_to_all(&self) {
         self.arrived.store(self.awaited, Ordering::SeqCst);
         self.arrived.wake_all();
     }

@@ -6,39 +6,22 @@ use heap_image::Fault;
 use ready_queues::Ready;
 
 /// One worker of a collection, which fills regions and calls its desk from a seat of its own.
+#[derive(Drop)]
 pub(crate) struct Worker<S> {
     pub(crate) seat: S,
     /// The regions that it has found ready.
     pub(crate) ready: Ready,
-    /// How it ended, or its last call if it works by calls: Ok if it met no fault, and nobody stopped it.
-    pub(crate) end: Result<(), Halt>,
-}
-
-impl<S: Drop> Drop for Worker<S> {
-    fn drop(self) {
-        let Self { seat, ready, end } = self;
-    }
+    /// The result of the worker, or of its last call if it works by calls: its own fault, or stopped by another's.
+    pub(crate) result: Result<(), Halt>,
 }
 
 impl<S> Worker<S> {
-    /// Its seat, without the queue.
-    pub(crate) fn into_seat(self) -> S
-        ensures { result ≡ self.seat }
-    {
-        let Worker {
-            seat,
-            ready: _,
-            end: _,
-        } = self;
-        seat
-    }
-
     /// The fault that this worker has met itself, if any.
     #[tactic(auto, unfolding(crate::specs::Halts::met_fault))]
     pub(crate) fn fault(&self) -> Option<Fault>
-        ensures { result ≡ met_fault self.now.end }
+        ensures { result ≡ met_fault self.now.result }
     {
-        match self.end {
+        match self.result {
             Err(Halt::Failed(fault)) => Some(fault),
             Ok(()) | Err(Halt::Stopped) => None,
         }

@@ -6,7 +6,7 @@ use std::time::Duration;
 
 const BYTES_IN_A_WORD: u64 = 8;
 
-/// The numbers of words that a collection kept and moved, and the time that it worked in memory.
+/// The numbers of words that a collection kept and moved.
 #[derive(Clone, Copy)]
 pub struct Moved {
     /// The words of the heap, if they are known.
@@ -15,13 +15,11 @@ pub struct Moved {
     pub kept: u64,
     /// The live words after the dense prefix.
     pub words: u64,
-    /// None if the clock failed.
-    pub took: Option<Duration>,
 }
 
 impl Moved {
-    /// Writes the lines of `--stats`, with the rate if the time is known.
-    pub fn print<B: Write>(&self, err: &mut B) -> io::Result<()> {
+    /// Writes the lines of `--stats`, with the rate if the time that it took in memory is known.
+    pub fn print<B: Write>(&self, took: Option<Duration>, err: &mut B) -> io::Result<()> {
         if let Some(heap) = self.heap {
             let size = Tenths::mib_of_words(heap);
             let share = Tenths::of_per_cent(self.kept, heap);
@@ -29,7 +27,7 @@ impl Moved {
         }
         let bytes = self.words.saturating_mul(BYTES_IN_A_WORD);
         let moved = Tenths::of_mib(bytes);
-        match self.took {
+        match took {
             Some(took) if took > Duration::ZERO => {
                 let rate = u128::from(bytes).saturating_mul(1_000_000_000) / took.as_nanos() >> 20;
                 writeln!(err, "pcompact: live {moved} MiB moved, {rate} MiB a second")

@@ -7,11 +7,10 @@ ghost use Rattle.summary.specs.RegionData.{deferred};
 ghost use Rattle.summary.specs.Compaction.{compact, moved_word};
 ghost use Rattle.fill.specs.MovedHeap.{moved_regions, cleared, words_from, updated_words, is_late_before, is_reference_behind, last_reference, IsCut, IsMovedPart, IsUpdatedPart};
 
-use super::deferred_parts::DeferredParts;
 use super::heap::{set_word, word};
+use super::updater::Updater;
 use heap_image::header::references;
 use raw_region::Region;
-use std::thread::Threads;
 use summary::laws::compaction::blocks_of_regions;
 use summary::laws::deferred_objects::{moved_objects, one_deferred_object, update_then_clear};
 use summary::laws::new_addresses::objects_keep_their_order;
@@ -20,39 +19,20 @@ use summary::laws::region_data::regions_to_fill;
 use summary::{Plan, Survey};
 
 /// Redirects the references of the deferred objects, once all regions are filled. `regions` are all regions of the
-/// heap, in order, with their moved words.
+/// heap, in order, with their moved words. The updater's threads do this.
 ///
 /// Afterwards they hold the compacted words, except from the new top up, where [`clear_above`](crate::clear_above) puts
-/// the zeros. Allocates nothing.
-pub fn update_deferred(regions: &mut [Region], survey: &Survey)
-    requires { regions.old ≡ moved_regions survey.now }
+/// the zeros. Allocates nothing apart from the threads.
+pub fn update_deferred<U: Updater>(regions: &mut [Region], survey: &Survey, updater: &U)
+    requires start { U.may_start }
+    requires moved { regions.old ≡ moved_regions survey.now }
     ensures blocks { AreBlocks survey.now.region_log regions.new }
     ensures updated { concat regions.new ≡ updated_words survey.now }
     ensures compacted { cleared (new_top survey.now) (concat regions.new) ≡ (compact survey.now).words }
 {
     let plan = survey.plan();
     whole_heap(plan);
-    update_regions(regions, plan, 0);
-}
-
-/// Does what [`update_deferred`] does, with at most `workers` threads, the caller's included; 0 counts as 1. Splits the
-/// heap between regions where no deferred object has references on both sides.
-///
-/// Allocates nothing apart from the threads.
-pub fn update_deferred_by_workers(
-    regions: &mut [Region],
-    survey: &Survey,
-    workers: usize,
-    threads: &(impl Threads + Sync),
-)
-    requires { regions.old ≡ moved_regions survey.now }
-    ensures blocks { AreBlocks survey.now.region_log regions.new }
-    ensures updated { concat regions.new ≡ updated_words survey.now }
-    ensures compacted { cleared (new_top survey.now) (concat regions.new) ≡ (compact survey.now).words }
-{
-    let plan = survey.plan();
-    whole_heap(plan);
-    DeferredParts { plan, threads }.start(regions, workers);
+    updater.update(regions, plan);
 }
 
 /// A law: the whole heap is one part, and once that part is updated the heap is.

@@ -204,6 +204,6 @@ impl<'a> Guide<'a> {
     {
         planned_image_is_valid(self.plan);
         objects_keep_their_order();
-        self.plan.new_address(self.marks, a)
+        self.plan.new_address(a)
     }
 }

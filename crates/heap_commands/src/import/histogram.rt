@@ -143,7 +143,7 @@ fn push_notes(figures: ImportFigures, text: &mut String) -> Result<(), AllocErro
     Ok(())
 }
 
-/// The bytes of so many words, or [`u64::MAX`].
+/// `words` in bytes, saturating.
 pub(crate) fn bytes_of(words: u64) -> u64
     ensures { result ≡ bytes_of words }
 {

@@ -3,7 +3,7 @@ ghost use Rattle.std.specs.Prelude.{◌≡◌, IfOk, string_bytes};
 
 use super::ImportMade;
 use super::object_list::give_list;
-use command_files::{FileTarget, Late, Output, SystemFile, WorkDone, both_ended, failed};
+use command_files::{FileTarget, Late, Output, SystemFile, WorkDone, both_ended};
 use command_support::{Trouble, Watched};
 use heap_dump::ListedImport;
 use heap_image::ToWrite;
@@ -44,7 +44,7 @@ where
         Ok(()) => both_ended(host, text, image, list),
         Err(trouble) => {
             list.abandon(host);
-            Err(failed(host, trouble, image))
+            Err(image.abandon_with(host, trouble))
         }
     }
 }
@@ -68,7 +68,7 @@ where
     };
     match list.begin_apart(host, image.place_name()) {
         Ok(list) => Ok((image, list)),
-        Err(trouble) => Err(failed(host, trouble, image)),
+        Err(trouble) => Err(image.abandon_with(host, trouble)),
     }
 }
 

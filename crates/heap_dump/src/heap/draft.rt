@@ -1,9 +1,7 @@
 //! The heap of an image before its live objects are marked.
-ghost use Rattle.std.specs.Prelude.{◌≡◌, true, IfOk, ◌≢◌};
-ghost use Rattle.std.specs.List.Sorted.{IsStrictlyIncreasing};
-ghost use Rattle.object_heap.specs.HeapImage.{IsValid, heap_words, roots_of};
-ghost use Rattle.object_heap.specs.Version.{IsChosen, has_roots};
+ghost use Rattle.std.specs.Prelude.{IfOk, ◌≢◌};
 ghost use Rattle.heap_dump.specs.ImportFigures.{AreFiguresOf};
+ghost use Rattle.heap_dump.specs.Requested.{IsImageFor};
 
 use super::roots::roots_to;
 use crate::figures::ImportFigures;
@@ -12,7 +10,7 @@ use crate::listing::object_count::count_objects;
 use crate::options::Regions;
 use dump_objects::UnsealedHeap;
 use dump_records::ImportError;
-use heap_image::{Fault, Image, ImageParts, mark_from_roots, marked_parts_are_valid};
+use heap_image::{Alone, Fault, Image, ImageParts, mark_from_roots, marked_parts_are_valid};
 use std::alloc::Global;
 
 /// A heap whose objects have their headers, and its roots.
@@ -45,14 +43,7 @@ impl Draft {
         requested: Regions,
         allowance: u64,
     ) -> Result<Imported, ImportError>
-        ensures valid { IfOk result (λ imported. IsValid imported.image) }
-        ensures rooted { IfOk result (λ imported. has_roots imported.image.version ≡ true) }
-        ensures version { IfOk result (λ imported. IsChosen requested.version requested.log (heap_words imported.image)
-            imported.image.version) }
-        ensures region_log { IfOk result (λ imported. imported.image.region_log ≡ requested.log) }
-        ensures roots { IfOk result (λ imported. IsStrictlyIncreasing (roots_of imported.image)) }
-        ensures allowance { IfOk result (λ imported. imported.image.allowance ≡ allowance) }
-        ensures figures { IfOk result (λ imported. AreFiguresOf imported.image imported.figures) }
+        ensures requested { IfOk result (λ imported. IsImageFor requested.version requested.log allowance imported) }
         ensures no_device { result ≢ Err ImportError.Input }
     {
         let Draft {
@@ -71,7 +62,13 @@ impl Draft {
         if roots.len() > u32::MAX as usize {
             return Err(ImportError::TooManyRoots(roots.len() as u64));
         }
-        let live = match mark_from_roots(alloc, region_log, regions.as_slice(), roots.as_slice()) {
+        let live = match mark_from_roots(
+            alloc,
+            region_log,
+            regions.as_slice(),
+            roots.as_slice(),
+            &Alone,
+        ) {
             Ok(live) => live,
             Err(Fault::Memory) => return Err(ImportError::Memory),
             Err(fault) => return Err(ImportError::NoHeap(fault)),

@@ -29,22 +29,12 @@ impl Packed {
         ensures end { OnOk result (IsAtEnd (R.left source.new)) }
         ensures input { result ≡ Err ImportError.Input → IsTrue (R.has_failed source.new) }
     {
-        let mut transcribed = Transcribed::of(
-            alloc,
-            &mut inventory,
-            source,
-            MAX_REGION_LOG_V2,
-            false,
-        )?;
+        let placed = inventory.place(alloc, MAX_REGION_LOG_V2, false)?;
+        let mut transcribed = Transcribed::of(alloc, &mut inventory, placed, source)?;
         // The rest of the inventory is freed before more memory is allocated.
         let roots = inventory.into_roots();
-        let Transcribed {
-            heap,
-            arrangement,
-            classes,
-            ..
-        } = &mut transcribed;
-        let survivors = Survivors::of(alloc, heap, arrangement.words(), roots.as_slice())?;
+        let Transcribed { heap, classes, .. } = &mut transcribed;
+        let survivors = Survivors::of(alloc, heap, roots.as_slice())?;
         classes.keep(heap, survivors.addresses.as_slice());
         Ok(Packed {
             transcribed,

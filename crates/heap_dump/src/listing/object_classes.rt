@@ -35,21 +35,11 @@ impl ObjectClasses {
     pub(crate) fn keep(&mut self, heap: &UnsealedHeap, survivors: &[u64]) {
         let mut at = 0u64;
         let mut kept = 0usize;
-        for index in 0..self.numbers.len() {
-            if survivors.get(kept) == Some(&at) {
-                self.copy(index, kept);
-                kept = kept.saturating_add(1);
-            }
+        self.numbers.retain(|_| {
+            let is_kept = survivors.get(kept).copied() == Some(at);
+            kept = kept.saturating_add(usize::from(is_kept));
             at = at.saturating_add(size(heap.word(at)).max(1));
-        }
-        self.numbers.truncate(kept);
-    }
-
-    fn copy(&mut self, from: usize, to: usize) {
-        if let Some(number) = self.numbers.get(from).copied() {
-            if let Some(kept) = self.numbers.get_mut(to) {
-                *kept = number;
-            }
-        }
+            is_kept
+        });
     }
 }

@@ -10,10 +10,10 @@ use Rattle.heap_image.specs.Reading.{HasFittingNumbers}
 use Rattle.image_streams.specs.declared.fault.Fault.{Fault}
 use Rattle.image_streams.specs.declared.fault.Fault.TheVariants.{TruncatedHeader, Magic, RegionLog, Length, TruncatedBody, LiveOrder, Header, Overlap, Reference, Trailing, Memory, Io, Workers, Schedule, Overwritten, Gate, Root}
 use Rattle.object_heap.specs.Version.{magic, Allows, max_region_log, max_regions, max_words}
-use Rattle.heap_image.specs.ImageText.{version_of_magic, fault_if, first_some, first_fault, front_faults, front, listed_text, from_tail, encoded_length, live_list_faults, first_object_fault}
+use Rattle.heap_image.specs.ImageText.{version_of_magic, fault_if, first_some, first_fault, front_faults, front, listed_text, from_tail, encoded_length, live_list_faults}
 use Rattle.object_heap.specs.ObjectFaults.{misplaced_root, misplaced_index, unsound_header, overlapping, dangling}
 use Rattle.image_streams.specs.Numbers.{numbers}
-use Rattle.object_heap.specs.HeapImage.{HeapImage, IsWithinLimits, heap_words, image_of, versioned_image_of, with_live, reachable, roots_or}
+use Rattle.object_heap.specs.HeapImage.{HeapImage, IsWithinLimits, heap_words, image_of, versioned_image_of, reachable}
 use Rattle.object_heap.specs.declared.version.Version.{Version}
 use Rattle.object_heap.specs.declared.version.Version.TheVariants.{One, Two, Three}
 use Rattle.image_streams.specs.Device.{is_io}
@@ -183,23 +183,19 @@ memory_behind_front version log live_count words allowance limits (Some input) (
   ap (λ b. first_some (front_faults b)) h ∙ front_faults-None version log live_count words allowance limits rest,
 )
 
--- a fault of the live list is one that reading may return, and neither fault 11 nor the device's
+-- a fault of the live list is one that reading may return, and not the device's
 list_kind : (root order header overlap : Option ℕ) (reference : Option (ℕ × ℕ)) (fault : Fault) → first_some (option_map Root root ∷ option_map LiveOrder order ∷ option_map Header header ∷ option_map Overlap overlap ∷ option_map (λ (p : ℕ × ℕ). Reference p.0 p.1) reference ∷ []) ≡ Some fault
-    → IsOfReading fault × (fault ≡ Memory → ⊥) × ((A : Type 0) → is_io {A = A} (Err fault) ≡ false)
-list_kind (Some i) order header overlap reference fault h = let e : fault ≡ Root i = cc in (subst IsOfReading (sym e) tt, λ m. cc, λ A. ap (λ f. is_io {A = A} (Err f)) e)
-list_kind None (Some i) header overlap reference fault h = let e : fault ≡ LiveOrder i = cc in (subst IsOfReading (sym e) tt, λ m. cc, λ A. ap (λ f. is_io {A = A} (Err f)) e)
-list_kind None None (Some a) overlap reference fault h = let e : fault ≡ Header a = cc in (subst IsOfReading (sym e) tt, λ m. cc, λ A. ap (λ f. is_io {A = A} (Err f)) e)
-list_kind None None None (Some a) reference fault h = let e : fault ≡ Overlap a = cc in (subst IsOfReading (sym e) tt, λ m. cc, λ A. ap (λ f. is_io {A = A} (Err f)) e)
-list_kind None None None None (Some p) fault h = let e : fault ≡ Reference p.0 p.1 = cc in (subst IsOfReading (sym e) tt, λ m. cc, λ A. ap (λ f. is_io {A = A} (Err f)) e)
+    → IsOfReading fault × ((A : Type 0) → is_io {A = A} (Err fault) ≡ false)
+list_kind (Some i) order header overlap reference fault h = let e : fault ≡ Root i = cc in (subst IsOfReading (sym e) tt, λ A. ap (λ f. is_io {A = A} (Err f)) e)
+list_kind None (Some i) header overlap reference fault h = let e : fault ≡ LiveOrder i = cc in (subst IsOfReading (sym e) tt, λ A. ap (λ f. is_io {A = A} (Err f)) e)
+list_kind None None (Some a) overlap reference fault h = let e : fault ≡ Header a = cc in (subst IsOfReading (sym e) tt, λ A. ap (λ f. is_io {A = A} (Err f)) e)
+list_kind None None None (Some a) reference fault h = let e : fault ≡ Overlap a = cc in (subst IsOfReading (sym e) tt, λ A. ap (λ f. is_io {A = A} (Err f)) e)
+list_kind None None None None (Some p) fault h = let e : fault ≡ Reference p.0 p.1 = cc in (subst IsOfReading (sym e) tt, λ A. ap (λ f. is_io {A = A} (Err f)) e)
 list_kind None None None None None fault h = cc
 
-pub object_kind : (image : HeapImage) (fault : Fault) → first_object_fault image ≡ Some fault → IsOfReading fault × (fault ≡ Memory → ⊥) × ((A : Type 0) → is_io {A = A} (Err fault) ≡ false)
-object_kind image fault h = list_kind None None (unsound_header image) (overlapping image) (dangling image) fault h
-
--- so is what ends the search for live objects, unless memory runs out
 pub search_kind : (image : HeapImage) (fault : Fault) → (fault ≡ Memory) ⊎ (first_some (live_list_faults image) ≡ Some fault) → IsOfReading fault × ((A : Type 0) → is_io {A = A} (Err fault) ≡ false)
 search_kind image fault (inl memory) = (subst IsOfReading (sym memory) tt, λ A. ap (λ f. is_io {A = A} (Err f)) memory)
-search_kind image fault (inr first) = let k = list_kind (misplaced_root image) (misplaced_index (heap_words image) image.live) (unsound_header image) (overlapping image) (dangling image) fault first in (k.0, k.2)
+search_kind image fault (inr first) = list_kind (misplaced_root image) (misplaced_index (heap_words image) image.live) (unsound_header image) (overlapping image) (dangling image) fault first
 
 front_kind : (fault : Fault) → IsOfFront fault → IsOfReading fault
 front_kind Magic f = tt
@@ -351,9 +347,3 @@ parts_are version log allowance blocks blocks' tail live roots b l r =
     whole One = refl
     whole Two = refl
     whole Three = refl
-
--- the numbers after the words are the roots, or else the live list
-pub tail_is : (version : Version) (heap : HeapImage) (tail live : List ℕ) (roots : Option (List ℕ)) → live ≡ (from_tail version (with_live heap tail)).live → roots ≡ (from_tail version (with_live heap tail)).roots → roots_or live roots ≡ tail
-tail_is One heap tail live roots l r = ap (roots_or live) r ∙ l
-tail_is Two heap tail live roots l r = ap (roots_or live) r
-tail_is Three heap tail live roots l r = ap (roots_or live) r

@@ -11,7 +11,7 @@ use Rattle.object_heap.specs.ObjectFaults.{is_dangling, fields_of, overlapping, 
 use Rattle.image_streams.specs.declared.fault.Fault.TheVariants.{Header, Overlap, Reference}
 use Rattle.heap_marking.specs.Marking.{IsWellFormed, AreReachedWell}
 use Rattle.object_heap.specs.Reachable.{is_listed, IsClosed}
-use Rattle.live_objects.specs.Soundness.{AreWellFormed}
+use Rattle.heap_marking.specs.Soundness.{AreWellFormed}
 use Rattle.heap_image.proofs.Lemmas.Faultless.{find_none, find_none_in_flat_map, find_none_in_fields}
 use Rattle.heap_image.proofs.Lemmas.Listed.{any_listed, listed_at}
 

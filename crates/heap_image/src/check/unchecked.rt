@@ -1,18 +1,26 @@
-//! The live objects of an image that was read, and their check.
+//! The live objects of a heap before they are checked, and their check.
 ghost use Rattle.std.specs.Prelude.{◌≡◌, ◌<◌, ◌≤◌, ◌^◌, None, length, IfOk, IfSome, IfErr};
 ghost use Rattle.object_heap.specs.Sizes.{AreSizes};
 ghost use Rattle.object_heap.specs.HeapImage.{heap_words, with_live};
-ghost use Rattle.heap_image.specs.Checks.{AreOfTail, AreSeen, IsMemoryOr, Reports, first_in_tail};
+ghost use Rattle.heap_image.specs.Checks.{AreOfTail, AreSeen, IsMemoryOr, MayReport, Reports, first_in_tail};
 ghost use Rattle.heap_image.specs.ImageText.{first_object_fault};
 
 use super::{check_live, misplaced_index};
-use crate::marking::reach::{Reached, find_reachable};
+use crate::marking::{Reached, find_reachable};
 use crate::{Fault, Version};
-use live_objects::{Marker, PIECE, sizes_if_sound};
+use heap_marking::{Marker, PIECE, sizes_if_sound};
 use object_heap::{Bits, Heap};
 use std::alloc::Global;
 
-/// The live objects of an image that was read, before they are checked.
+/// Live objects that are sound.
+#[derive(Drop)]
+pub(crate) struct SoundObjects {
+    pub(crate) found: Found,
+    /// Their sizes, if there is memory for them.
+    pub(crate) sizes: Option<Vec<[u32; PIECE]>>,
+}
+
+/// Live objects before they are checked.
 #[derive(Drop)]
 pub(crate) struct Found {
     /// Their addresses, ascending.
@@ -26,9 +34,34 @@ pub(crate) struct Found {
     pub(crate) roots: Option<Vec<u64>>,
 }
 
+/// The live objects of a heap, if all of them are sound, or else the first fault. `tail` is what follows the words in a
+/// text of this version.
+pub(crate) fn find_sound_objects<M: Marker>(
+    alloc: Global,
+    heap: &Heap<'_>,
+    version: Version,
+    tail: Vec<u64>,
+    marker: &M,
+) -> Result<SoundObjects, Fault>
+    requires marker { M.may_start }
+    requires few { length tail.items ≤ heap_words heap.now }
+    requires fits { length tail.items < 2 ^ 32 }
+    ensures found { IfOk result (λ sound. AreOfTail heap.now version tail.items sound.found) }
+    ensures sizes { IfOk result (λ sound. IfSome sound.sizes
+        (λ sizes. AreSizes (with_live heap.now sound.found.live.items) sizes.items)) }
+    ensures faults { MayReport result (first_in_tail version heap.now tail.items) }
+{
+    let found = find_live_objects(alloc, heap, version, tail, marker)?;
+    let sizes = found.sizes_if_sound(alloc, heap, marker);
+    if sizes.is_none() {
+        found.check(heap)?;
+    }
+    Ok(SoundObjects { found, sizes })
+}
+
 /// Finds the live objects of a heap. `tail` is what follows the words in a text of this version: the roots, from which
 /// the marker marks, or the live list.
-pub(crate) fn find_live_objects<M: Marker>(
+fn find_live_objects<M: Marker>(
     alloc: Global,
     heap: &Heap<'_>,
     version: Version,
@@ -70,7 +103,7 @@ pub(crate) fn find_live_objects<M: Marker>(
 
 impl Found {
     /// Checks the live objects of their heap and returns their first fault. One thread visits each object once.
-    pub(crate) fn check(&self, heap: &Heap<'_>) -> Result<(), Fault>
+    fn check(&self, heap: &Heap<'_>) -> Result<(), Fault>
         requires { AreSeen heap.now self.now.live.items self.now.begins self.now.well_formed }
         ensures { Reports result (first_object_fault (with_live heap.now self.now.live.items)) }
     {
@@ -79,7 +112,7 @@ impl Found {
 
     /// The sizes of the live objects, if all of them are sound. If they are known to be well-formed already, it looks for
     /// overlaps alone. Returns `None` also if memory runs out.
-    pub(crate) fn sizes_if_sound<M: Marker>(
+    fn sizes_if_sound<M: Marker>(
         &self,
         alloc: Global,
         heap: &Heap<'_>,

@@ -5,32 +5,21 @@ ghost use Rattle.heap_image.specs.Decoding.{Decodes};
 ghost use Rattle.heap_image.specs.ImageText.{first_some, layout_faults};
 
 use super::front::{FRONT_BYTES, Front};
-use super::read::{read_image, read_image_by_threads};
+use super::read::read_image;
 use crate::{Fault, Image};
+use heap_marking::Marker;
 use image_streams::{Failed, Intake};
 use std::alloc::Global;
-use std::thread::Threads;
 
 /// Decodes the text of an image, or returns the first fault of the bytes: 1 to 10 or 17, or 11 if memory runs out. For
-/// faults 1 to 5 no memory is allocated. Runs in the caller's thread alone.
-pub fn decode(alloc: Global, bytes: &[u8]) -> Result<Image, Fault>
+/// faults 1 to 5 no memory is allocated. The marker's threads mark and check the live objects; the result does not
+/// depend on their number.
+pub fn decode<M: Marker>(alloc: Global, bytes: &[u8], marker: &M) -> Result<Image, Fault>
+    requires { M.may_start }
     ensures { Decodes bytes.now result }
 {
     layout_fault(bytes)?;
-    read_image(alloc, &mut Bytes(bytes))
-}
-
-/// Like [`decode`], but checks the live objects in as many threads as there are processors. The result does not depend
-/// on their number.
-pub fn decode_by_threads(
-    alloc: Global,
-    bytes: &[u8],
-    threads: &(impl Threads + Sync),
-) -> Result<Image, Fault>
-    ensures { Decodes bytes.now result }
-{
-    layout_fault(bytes)?;
-    read_image_by_threads(alloc, &mut Bytes(bytes), threads)
+    read_image(alloc, &mut Bytes(bytes), marker)
 }
 
 /// The first of the faults 1 to 5 that these bytes have, if any.

@@ -1,9 +1,9 @@
 //! The front: the first 32 bytes of an image's text.
-ghost use Rattle.std.specs.Prelude.{◌≡◌, ◌≢◌, ◌≤◌, ◌^◌, ◌+◌, ◌*◌, length, take, is_some, Some, IfOk, IfErr, IfNone, IfSome, option_map};
+ghost use Rattle.std.specs.Prelude.{◌≡◌, ◌≢◌, ◌≤◌, ◌^◌, ◌+◌, ◌*◌, ◌||◌, false, nat_lt, length, take, is_some, Some, IfOk, OnOk, IfErr, IfNone, IfSome, option_map};
 ghost use Rattle.std.specs.Str.{bytes_eq};
 ghost use Rattle.heap_image.specs.Front.{Fits, HasAllowedRegions, IsOfBytes, bytes_of};
 ghost use Rattle.heap_image.specs.ImageText.{front_faults, first_some, encoded_version};
-ghost use Rattle.object_heap.specs.Version.{magic, Allows};
+ghost use Rattle.object_heap.specs.Version.{magic, Allows, max_region_log};
 ghost use Rattle.object_heap.specs.HeapImage.{IsWithinLimits};
 ghost use Rattle.heap_image.specs.LengthCause.{length_causes, first_length_cause};
 ghost use Rattle.heap_image.specs.Refusals.{IsFaultOfFront};
@@ -21,14 +21,16 @@ pub const FRONT_BYTES: usize = 32;
 
 /// The fields of the first 32 bytes of a text.
 #[derive(Clone, Copy)]
-pub(crate) struct Front {
-    pub(crate) version: Version,
-    pub(crate) region_log: u32,
+pub struct Front {
+    pub version: Version,
+    /// The logarithm, to base 2, of the number of words of a region.
+    pub region_log: u32,
     /// The number of live addresses or, if the image has roots, of roots.
-    pub(crate) count: u32,
+    pub count: u32,
     /// The number of words of the heap.
-    pub(crate) words: u64,
-    pub(crate) allowance: u64,
+    pub words: u64,
+    /// The largest number of dead words that the dense prefix may keep.
+    pub allowance: u64,
 }
 
 impl Front {
@@ -62,16 +64,39 @@ impl Front {
             return Err(Fault::Magic);
         };
         let region_log = u32_at(bytes, 8);
-        if region_log < MIN_REGION_LOG || region_log > version.max_region_log() {
-            return Err(Fault::RegionLog);
-        }
-        Ok(Front {
+        let parsed = Front {
             version,
             region_log,
             count: u32_at(bytes, 12),
             words: u64_at(bytes, 16),
             allowance: u64_at(bytes, 24),
-        })
+        };
+        if parsed.has_forbidden_regions() {
+            return Err(Fault::RegionLog);
+        }
+        Ok(parsed)
+    }
+
+    /// Checks that the version allows these fields. The faults are a wrong region log and a wrong length.
+    pub(crate) fn check(self) -> Result<(), Fault>
+        ensures fits { OnOk result (Fits self) }
+        ensures fault { IfErr result (λ fault. first_some (front_faults (bytes_of self)) ≡ Some fault) }
+    {
+        if self.has_forbidden_regions() {
+            return Err(Fault::RegionLog);
+        }
+        match self.length_cause() {
+            None => Ok(()),
+            Some(_) => Err(Fault::Length),
+        }
+    }
+
+    /// Whether the version forbids regions of this size.
+    fn has_forbidden_regions(&self) -> bool
+        ensures forbidden { result ≡ (nat_lt self.now.region_log 3 || nat_lt (max_region_log self.now.version) self.now.region_log) }
+        ensures allowed { result ≡ false → HasAllowedRegions self.now }
+    {
+        self.region_log < MIN_REGION_LOG || self.region_log > self.version.max_region_log()
     }
 
     /// The size of the body that follows this front.
@@ -96,8 +121,8 @@ impl Front {
         FRONT_BYTES + 8 * self.words as usize + 8 * self.count as usize
     }
 
-    /// Encodes the front.
-    pub(crate) fn to_bytes(self) -> [u8; FRONT_BYTES]
+    /// Encodes the front. Its fields needn't be within the limits of the format.
+    pub fn to_bytes(self) -> [u8; FRONT_BYTES]
         ensures { result ≡ bytes_of self }
     {
         let mut bytes = [0; FRONT_BYTES];

@@ -70,7 +70,7 @@ impl Rounds {
         &mut self,
         alloc: Global,
         heap: &Heap<'_>,
-        crowd: &Many<'_, T>,
+        many: &Many<'_, T>,
     ) -> Result<(), AllocError>
         requires { HasLayout heap.now self.old }
         ensures { OnOk result (Advances heap.now self.old self.new) }
@@ -83,11 +83,11 @@ impl Rounds {
             }
             let smallness = smallness_of(load, self.parts.as_slice());
             small = small.wrapping_add(smallness);
-            let crowd = Many {
-                threads: crowd.threads,
-                most: threads_of(smallness, crowd.most),
+            let many = Many {
+                threads: many.threads,
+                most: threads_of(smallness, many.most),
             };
-            self.turn(alloc, heap, &crowd)?;
+            self.turn(alloc, heap, &many)?;
         }
         Ok(())
     }
@@ -97,13 +97,13 @@ impl Rounds {
         &mut self,
         alloc: Global,
         heap: &Heap<'_>,
-        crowd: &Many<'_, T>,
+        many: &Many<'_, T>,
     ) -> Result<(), AllocError>
-        requires threads { 0 < crowd.now.most }
+        requires threads { 0 < many.now.most }
         requires layout { HasLayout heap.now self.old }
         ensures { OnOk result (Advances heap.now self.old self.new) }
     {
-        self.turn_all(alloc, heap, crowd);
+        self.turn_all(alloc, heap, many);
         if has_failed(self.parts.as_slice()) {
             return Err(AllocError);
         }
@@ -112,8 +112,8 @@ impl Rounds {
     }
 
     /// Each part does its work of a round.
-    fn turn_all<T: Threads + Sync>(&mut self, alloc: Global, heap: &Heap<'_>, crowd: &Many<'_, T>)
-        requires threads { 0 < crowd.now.most }
+    fn turn_all<T: Threads + Sync>(&mut self, alloc: Global, heap: &Heap<'_>, many: &Many<'_, T>)
+        requires threads { 0 < many.now.most }
         requires layout { HasLayout heap.now self.old }
         ensures log { self.new.log ≡ self.old.log }
         ensures sent { self.new.sent ≡ self.old.sent }
@@ -125,7 +125,7 @@ impl Rounds {
             requires { IsReady log (heap_words heap.now) sent.now part.old }
             ensures { IsTrue part.new.failed ⊎ IsRoundOf log heap.entry.now sent.entry.now part.old part.new }
         { part.round(alloc, heap, log, sent) };
-        for_each_mut(crowd.threads, self.parts.as_mut_slice(), crowd.most, &work);
+        for_each_mut(many.threads, self.parts.as_mut_slice(), many.most, &work);
     }
 
     /// The number of references on their way and of addresses that wait. No contract depends on it.

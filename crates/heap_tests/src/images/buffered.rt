@@ -3,7 +3,7 @@ use super::devices::Full;
 use super::texts::{base_text, regions_of};
 use crate::answers::are_right;
 use crate::checks::{equal, equal_at, equal_bytes, holds};
-use heap_image::{Fault, Image, Outlet, ToWrite, decode, write_image, write_image_buffered};
+use heap_image::{Alone, Fault, Image, Outlet, ToWrite, decode, write_image, write_image_buffered};
 use heap_samples::{Base, image_text};
 use std::alloc::Global;
 use std::io;
@@ -30,7 +30,7 @@ impl Write for Longest {
 fn large(alloc: Global, region_log: u64) -> Result<Image, Fault> {
     let words = Vec::from_iter(alloc, (0..131_072u64).map(|a| a << 32 | a))?;
     let text = image_text(alloc, regions_of(region_log), words.as_slice(), &[])?;
-    decode(alloc, text.as_slice())
+    decode(alloc, text.as_slice(), &Alone)
 }
 
 /// The lengths of the longest pieces in which an image is written, without and with a buffer in memory.
@@ -71,7 +71,7 @@ fn write_limited(alloc: Global, image: &Image, limit: usize) -> (Result<(), Faul
 #[test]
 fn a_writer_fails_at_each_byte(rt: HostRuntime) -> Result<(), Fail> {
     let text = base_text(rt.alloc())?;
-    let image = decode(rt.alloc(), text.as_slice())?;
+    let image = decode(rt.alloc(), text.as_slice(), &Alone)?;
     for limit in 0..=text.len() {
         let (answer, bytes) = write_limited(rt.alloc(), &image, limit);
         equal_at(&rt, answer.is_ok(), limit == text.len(), limit);
@@ -83,7 +83,7 @@ fn a_writer_fails_at_each_byte(rt: HostRuntime) -> Result<(), Fail> {
 /// Whether the right text is written. Returns false also if memory runs out after something is written.
 fn is_written(alloc: Global) -> Result<bool, Fault> {
     let text = Base::WithRoots.text(alloc, 2)?;
-    let image = decode(alloc, text.as_slice())?;
+    let image = decode(alloc, text.as_slice(), &Alone)?;
     let mut writer = ToWrite::new(Full {
         bytes: Vec::with_capacity(alloc, 400)?,
         step: 100,

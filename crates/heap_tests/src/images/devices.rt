@@ -3,8 +3,8 @@ use super::roots::{object, text_with_roots};
 use crate::answers::expect_fault;
 use crate::checks::{equal, equal_at, equal_bytes, holds};
 use heap_image::{
-    Failed, Fault, FromRead, Image, Outlet, ToWrite, decode_by_threads, give_all,
-    read_image_by_threads, write_image,
+    Failed, Fault, FromRead, Image, Outlet, ToWrite, all_processors, decode, give_all, read_image,
+    write_image,
 };
 use heap_samples::{BASE_WORDS, Base, Trickle};
 use std::alloc::Global;
@@ -76,7 +76,7 @@ fn try_failing_readers(rt: &(impl Abort + Threads + Sync), alloc: Global, text: 
             step: 7,
             limit,
         });
-        let fault = expect_fault(rt, read_image_by_threads(alloc, &mut broken, rt));
+        let fault = expect_fault(rt, read_image(alloc, &mut broken, &all_processors(rt)));
         equal_at(rt, fault, Fault::Io, limit);
     }
 }
@@ -88,7 +88,7 @@ fn try_full_writers(
     alloc: Global,
     text: &[u8],
 ) -> Result<(), Fault> {
-    let image = decode_by_threads(alloc, text, rt)?;
+    let image = decode(alloc, text, &all_processors(rt))?;
     for limit in 0..text.len() {
         let taken = write_cut(rt, alloc, &image, limit, false);
         equal_bytes(rt, taken.as_slice(), &text[..limit]);
@@ -121,7 +121,7 @@ fn broken_fault(rt: &(impl Abort + Threads + Sync), alloc: Global, text: &[u8]) 
         step: 7,
         limit: text.len(),
     });
-    expect_fault(rt, read_image_by_threads(alloc, &mut broken, rt))
+    expect_fault(rt, read_image(alloc, &mut broken, &all_processors(rt)))
 }
 
 #[test]

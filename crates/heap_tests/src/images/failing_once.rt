@@ -3,7 +3,7 @@ use super::texts::{base_text, front};
 use crate::answers::expect_fault;
 use crate::checks::{equal, equal_at, equal_bytes, holds};
 use heap_image::{
-    Fault, FromRead, Image, Intake, Outlet, ToWrite, decode, read_image, write_image,
+    Alone, Fault, FromRead, Image, Intake, Outlet, ToWrite, decode, read_image, write_image,
 };
 use std::alloc::Global;
 use std::io;
@@ -76,16 +76,16 @@ type TwoReadings = (Fault, bool, Fault, usize);
 /// Reads twice from a reader whose device fails in this call.
 fn read_twice(rt: &impl Abort, alloc: Global, text: &[u8], fails_at: usize) -> TwoReadings {
     let mut reader = FromRead::new(failing_at(alloc, fails_at, text));
-    let fault = expect_fault(rt, read_image(alloc, &mut reader));
+    let fault = expect_fault(rt, read_image(alloc, &mut reader, &Alone));
     let failed = reader.failed() && reader.take(&mut [0; 1]).is_err();
-    let again = expect_fault(rt, read_image(alloc, &mut reader));
+    let again = expect_fault(rt, read_image(alloc, &mut reader, &Alone));
     (fault, failed, again, reader.into_inner().calls)
 }
 
 /// Reads an image without a failure, and returns it with the number of calls of the device.
 fn read_sound(alloc: Global, text: &[u8]) -> Result<(Image, usize), Fault> {
     let mut reader = FromRead::new(failing_at(alloc, 48, text));
-    let image = read_image(alloc, &mut reader)?;
+    let image = read_image(alloc, &mut reader, &Alone)?;
     Ok((image, reader.into_inner().calls))
 }
 
@@ -149,10 +149,10 @@ fn write_once(alloc: Global, image: &Image) -> (bool, FailsOnce<'static>) {
 #[test]
 fn front_alone_where_refused_memory_is_reported(rt: HostRuntime) {
     let bytes = front(8, 0, 4_194_304);
-    let decoded = expect_fault(&rt, decode(rt.alloc(), &bytes));
+    let decoded = expect_fault(&rt, decode(rt.alloc(), &bytes, &Alone));
     let read = expect_fault(
         &rt,
-        read_image(rt.alloc(), &mut FromRead::new(bytes.as_slice())),
+        read_image(rt.alloc(), &mut FromRead::new(bytes.as_slice()), &Alone),
     );
     equal(
         &rt,

@@ -5,7 +5,8 @@ ghost use Rattle.object_heap.specs.HeapImage.{AreBlocks};
 use crate::checks::{equal, equal_bytes};
 use crate::images::texts::base_text;
 use heap_image::{
-    Fault, Image, ImageParts, RefusedRegions, UncheckedParts, decode, encode, image_of_regions,
+    Alone, Fault, Image, ImageParts, RefusedRegions, UncheckedParts, decode, encode,
+    image_of_regions,
 };
 use std::alloc::Global;
 use std::test::Fail;
@@ -15,7 +16,7 @@ fn base_parts(alloc: Global) -> Result<ImageParts, Fail>
     ensures { IfOk result (λ parts. AreBlocks parts.region_log parts.regions.items) }
 {
     let text = base_text(alloc)?;
-    Ok(decode(alloc, text.as_slice())?.into_parts())
+    Ok(decode(alloc, text.as_slice(), &Alone)?.into_parts())
 }
 
 /// The image of these parts with this live list, or the regions and why they are none.
@@ -44,6 +45,7 @@ fn image_with(
             regions,
             tail,
         },
+        &Alone,
     ))
 }
 

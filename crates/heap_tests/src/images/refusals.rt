@@ -2,7 +2,7 @@
 use super::texts::regions_of;
 use crate::answers::expect_fault;
 use crate::checks::equal;
-use heap_image::{Fault, decode_by_threads, header};
+use heap_image::{Fault, all_processors, decode, header};
 use heap_samples::image_text;
 use std::alloc::{AllocError, Global};
 use std::test::Fail;
@@ -26,7 +26,7 @@ fn pairs_but(alloc: Global, at: u64, number: u64) -> Result<Vec<u8>, AllocError>
 #[test]
 fn many_objects_are_checked_by_several_threads(rt: HostRuntime) -> Result<(), Fail> {
     let sound = pairs_but(rt.alloc(), 6000, PAIR)?;
-    let image = decode_by_threads(rt.alloc(), sound.as_slice(), &rt)?;
+    let image = decode(rt.alloc(), sound.as_slice(), &all_processors(&rt))?;
     equal(&rt, image.live().len(), 4096);
     let changes = [
         (6000, header::filler(2), Fault::Header(6000)),
@@ -37,7 +37,10 @@ fn many_objects_are_checked_by_several_threads(rt: HostRuntime) -> Result<(), Fa
     ];
     for (at, number, fault) in changes {
         let text = pairs_but(rt.alloc(), at, number)?;
-        let found = expect_fault(&rt, decode_by_threads(rt.alloc(), text.as_slice(), &rt));
+        let found = expect_fault(
+            &rt,
+            decode(rt.alloc(), text.as_slice(), &all_processors(&rt)),
+        );
         equal(&rt, found, fault);
     }
     Ok(())

@@ -3,7 +3,7 @@ use super::texts::base_text;
 use crate::answers::{are_right, comes_through, is_text};
 use crate::checks::{equal, equal_words, holds, holds_at};
 use heap_image::{
-    Fault, FromRead, Version, decode_by_threads, mark_from_roots, read_image_by_threads,
+    Alone, Fault, FromRead, Version, all_processors, decode, mark_from_roots, read_image,
 };
 use heap_samples::{BASE_LIVE, BASE_ROOTS, BASE_WORDS, Base, Settings, rooted_text};
 use std::alloc::{AllocError, Global};
@@ -42,7 +42,7 @@ fn is_read(
     roots: &[u64],
     live: &[u64],
 ) -> Result<bool, Fault> {
-    let read = read_image_by_threads(alloc, &mut FromRead::new(text), rt)?;
+    let read = read_image(alloc, &mut FromRead::new(text), &all_processors(rt))?;
     Ok(read.live() == live && read.roots() == roots && read.version() == Version::Two)
 }
 
@@ -52,7 +52,7 @@ fn is_decoded(
     text: &[u8],
     live: &[u64],
 ) -> Result<bool, Fault> {
-    let image = decode_by_threads(alloc, text, rt)?;
+    let image = decode(alloc, text, &all_processors(rt))?;
     let is_text = is_text(alloc, &image, text)?;
     Ok(is_text && image.live() == live)
 }
@@ -90,9 +90,15 @@ fn mark_base(
     roots: &[u64],
 ) -> Result<Vec<u64>, Fault> {
     let text = base_text(alloc)?;
-    let parts = decode_by_threads(alloc, text.as_slice(), threads)?.into_parts();
+    let parts = decode(alloc, text.as_slice(), &all_processors(threads))?.into_parts();
     if roots.len() <= parts.live.len() {
-        mark_from_roots(alloc, parts.region_log, parts.regions.as_slice(), roots)
+        mark_from_roots(
+            alloc,
+            parts.region_log,
+            parts.regions.as_slice(),
+            roots,
+            &Alone,
+        )
     } else {
         Err(Fault::Length)
     }

@@ -5,8 +5,8 @@ use super::texts::base_text;
 use crate::answers::{are_right, is_text};
 use crate::checks::{equal, equal_at, equal_bytes, equal_words, holds};
 use heap_image::{
-    Fault, FromRead, Image, Intake, Outlet, ToWrite, Version, decode_by_threads, upgrade,
-    upgrade_stream, upgrade_to,
+    Alone, Fault, FromRead, Image, Intake, Outlet, ToWrite, Version, all_processors, decode,
+    read_image, upgrade, upgrade_to, write_image_buffered,
 };
 use heap_samples::{BASE_LIVE, BASE_WORDS, Base, Settings, Trickle, rooted_text};
 use std::alloc::{AllocError, Global};
@@ -16,6 +16,20 @@ use std::thread::Threads;
 
 /// The roots of the upgraded base heap.
 const ROOTS: [u64; 4] = [1, 6, 13, 21];
+
+/// Reads an image, upgrades it, writes it, and returns its number of roots.
+fn upgrade_stream<R: Intake, O: Outlet>(
+    alloc: Global,
+    reader: &mut R,
+    writer: &mut O,
+) -> Result<u32, Fault> {
+    let image = match upgrade(alloc, read_image(alloc, reader, &Alone)?) {
+        Ok(image) => image,
+        Err((_, fault)) => return Err(fault),
+    };
+    write_image_buffered(alloc, &image, writer)?;
+    Ok(image.roots().len() as u32)
+}
 
 /// Upgrades a stream, and returns the result and the bytes that are written.
 fn upgrade_bytes(alloc: Global, bytes: &[u8]) -> (Result<u32, Fault>, Vec<u8>) {
@@ -38,7 +52,7 @@ fn the_base_heap_is_upgraded_once(rt: HostRuntime) -> Result<(), Fail> {
     equal(&rt, text.len(), 320);
     let wanted = text_with_roots(rt.alloc(), &BASE_WORDS, &ROOTS)?;
     equal_bytes(&rt, text.as_slice(), wanted.as_slice());
-    let image = decode_by_threads(rt.alloc(), text.as_slice(), &rt)?;
+    let image = decode(rt.alloc(), text.as_slice(), &all_processors(&rt))?;
     equal_words(&rt, image.live(), &BASE_LIVE);
     check_kept(&rt, rt.alloc(), text.as_slice());
     if let Some(digit) = text.get_mut(7) {
@@ -124,7 +138,7 @@ fn is_upgraded(
     threads: &(impl Threads + Sync),
     texts: &Texts,
 ) -> Result<bool, Fault> {
-    match upgrade(alloc, decode_by_threads(alloc, &texts.old, threads)?) {
+    match upgrade(alloc, decode(alloc, &texts.old, &all_processors(threads))?) {
         Ok(new) => is_text(alloc, &new, &texts.new),
         Err((same, fault)) => is_refused(alloc, &same, &texts.old, fault),
     }
@@ -148,7 +162,11 @@ fn is_upgraded_to(
     old: &[u8],
     new: &[u8],
 ) -> Result<bool, Fault> {
-    match upgrade_to(alloc, decode_by_threads(alloc, old, threads)?, version) {
+    match upgrade_to(
+        alloc,
+        decode(alloc, old, &all_processors(threads))?,
+        version,
+    ) {
         Ok(image) => is_text(alloc, &image, new),
         Err((same, fault)) => is_refused(alloc, &same, old, fault),
     }
@@ -183,7 +201,7 @@ fn are_upgraded_to(
 
 /// Whether an image with roots is upgraded to itself, which allocates no memory.
 fn stays(alloc: Global, threads: &(impl Threads + Sync), texts: &Texts) -> Result<bool, Fault> {
-    match upgrade(alloc, decode_by_threads(alloc, &texts.new, threads)?) {
+    match upgrade(alloc, decode(alloc, &texts.new, &all_processors(threads))?) {
         Ok(same) => is_text(alloc, &same, &texts.new),
         Err(_) => Ok(false),
     }

@@ -3,7 +3,7 @@ use crate::answers::are_right;
 use crate::checks::{equal, equal_words, holds, holds_at};
 use crate::images::roots::object;
 use crate::images::texts::regions_of;
-use heap_image::{Fault, FromRead, decode, mark_from_roots_by_workers, read_image_by_workers};
+use heap_image::{Alone, Fault, FromRead, Many, decode, mark_from_roots, read_image};
 use heap_samples::{BASE_LIVE, BASE_ROOTS, Base, rooted_text};
 use std::alloc::{AllocError, Global};
 use std::test::Fail;
@@ -112,7 +112,14 @@ fn live_by(
     text: &[u8],
     workers: usize,
 ) -> Result<Result<Vec<u64>, Fault>, AllocError> {
-    match read_image_by_workers(alloc, &mut FromRead::new(text), workers, rt) {
+    match read_image(
+        alloc,
+        &mut FromRead::new(text),
+        &Many {
+            threads: rt,
+            most: workers,
+        },
+    ) {
         Ok(image) => Ok(Ok(Vec::from_iter(alloc, image.live().iter().copied())?)),
         Err(fault) => Ok(Err(fault)),
     }
@@ -126,7 +133,7 @@ fn agrees(
     workers: usize,
 ) -> Result<bool, AllocError> {
     let found = live_by(rt, alloc, text, workers)?;
-    Ok(match (decode(alloc, text), found) {
+    Ok(match (decode(alloc, text, &Alone), found) {
         (Ok(image), Ok(live)) => image.live() == live.as_slice(),
         (Err(fault), Err(found)) => fault == found,
         _ => false,
@@ -164,7 +171,14 @@ fn several_threads_find_an_overlap(rt: HostRuntime) -> Result<(), Fail> {
 /// Whether two workers find all objects of a list that leads through all parts.
 fn list_comes_through(rt: &(impl Threads + Sync), alloc: Global) -> Result<bool, Fault> {
     let text = Shape::List.text(alloc)?;
-    let image = read_image_by_workers(alloc, &mut FromRead::new(text.as_slice()), 2, rt)?;
+    let image = read_image(
+        alloc,
+        &mut FromRead::new(text.as_slice()),
+        &Many {
+            threads: rt,
+            most: 2,
+        },
+    )?;
     let objects = (0..OBJECTS).map(|number| number * SIZE);
     Ok(image.live().iter().copied().eq(objects))
 }
@@ -182,10 +196,19 @@ fn refused_memory_is_reported(rt: HostRuntime) {
 /// Marks the base heap by two workers, from at most as many roots as it has live objects.
 fn mark_base(rt: &(impl Threads + Sync), alloc: Global, roots: &[u64]) -> Result<Vec<u64>, Fault> {
     let text = Base::WithLiveList.text(alloc, 0)?;
-    let parts = decode(alloc, text.as_slice())?.into_parts();
+    let parts = decode(alloc, text.as_slice(), &Alone)?.into_parts();
     if roots.len() <= parts.live.len() {
         let (log, regions) = (parts.region_log, parts.regions.as_slice());
-        mark_from_roots_by_workers(alloc, log, regions, roots, 2, rt)
+        mark_from_roots(
+            alloc,
+            log,
+            regions,
+            roots,
+            &Many {
+                threads: rt,
+                most: 2,
+            },
+        )
     } else {
         Err(Fault::Length)
     }

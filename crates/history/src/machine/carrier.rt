@@ -59,8 +59,8 @@ impl<'a> Carrier<'a> {
         planned_image_is_valid(plan);
         planned_image_is_own(plan);
         let origins = origins_of(alloc, plan, marks)?;
-        let early = early_references(alloc, image, plan, marks)?;
-        let late = late_references(alloc, image, plan, marks)?;
+        let early = early_references(alloc, image, plan)?;
+        let late = late_references(alloc, image, plan)?;
         Ok(Carrier {
             plan,
             marks,
@@ -126,7 +126,7 @@ impl<'a> Carrier<'a> {
     {
         let mut live = Vec::new(alloc);
         for a in image.live() {
-            live.push(self.plan.new_address(self.marks, *a))?;
+            live.push(self.plan.new_address(*a))?;
         }
         Ok(live)
     }

@@ -9,7 +9,6 @@ ghost use Rattle.history.specs.Carrier.{AreFlags, AreSet};
 
 use crate::laws::image_laws::new_words_fit;
 use heap_image::{Image, header};
-use mark_bitmap::Marks;
 use std::alloc::{AllocError, Global};
 use summary::Plan;
 use summary::laws::plans::{image_is_own, planned_image_is_own};
@@ -19,17 +18,15 @@ pub(crate) fn early_references(
     alloc: Global,
     image: &Image,
     plan: &Plan,
-    marks: &Marks,
 ) -> Result<Vec<bool>, AllocError>
     requires plan { plan.now ≡ image.now }
-    requires marks { marks.now ≡ image.now }
     ensures { IfOk result (λ flags. AreFlags image.now (is_redirected image.now) flags.items) }
 {
     image_is_own(image);
     let mut flags = vec![in alloc; false; image.len() as usize]?;
     for a in image.live() {
         let header = image.word(*a);
-        if !is_deferred(plan, marks, *a, header) {
+        if !is_deferred(plan, *a, header) {
             set_after(&mut flags, *a, header::references(header));
         }
     }
@@ -41,10 +38,8 @@ pub(crate) fn late_references(
     alloc: Global,
     image: &Image,
     plan: &Plan,
-    marks: &Marks,
 ) -> Result<Vec<bool>, AllocError>
     requires plan { plan.now ≡ image.now }
-    requires marks { marks.now ≡ image.now }
     ensures { IfOk result (λ flags. AreFlags image.now (is_late_reference image.now) flags.items) }
 {
     new_words_fit();
@@ -52,8 +47,8 @@ pub(crate) fn late_references(
     let mut flags = vec![in alloc; false; image.len() as usize]?;
     for a in image.live() {
         let header = image.word(*a);
-        if is_deferred(plan, marks, *a, header) {
-            let begin = plan.new_address(marks, *a);
+        if is_deferred(plan, *a, header) {
+            let begin = plan.new_address(*a);
             set_after(&mut flags, begin, header::references(header));
         }
     }
@@ -61,8 +56,7 @@ pub(crate) fn late_references(
 }
 
 /// Whether the live object at `a` with this header is deferred.
-fn is_deferred(plan: &Plan, marks: &Marks, a: u64, header: u64) -> bool
-    requires same { marks.now ≡ plan.now }
+fn is_deferred(plan: &Plan, a: u64, header: u64) -> bool
     requires live { Contains plan.now.live a }
     requires header { header ≡ word_at plan.now a }
     ensures { result ≡ is_deferred plan.now a }
@@ -70,7 +64,7 @@ fn is_deferred(plan: &Plan, marks: &Marks, a: u64, header: u64) -> bool
     new_words_fit();
     planned_image_is_own(plan);
     let size = plan.region_words();
-    let begin = plan.new_address(marks, a);
+    let begin = plan.new_address(a);
     let last = begin + u64::from(header::size(header)) - 1;
     begin / size != last / size
 }

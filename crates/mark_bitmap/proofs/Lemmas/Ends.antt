@@ -20,7 +20,7 @@ and-false true = refl
 and-false false = refl
 
 -- the object with the word at a ends before e
-pub record IsBehind (image : HeapImage) (a e : ℕ) : Type 0 where
+pub record IsObjectEnd (image : HeapImage) (a e : ℕ) : Type 0 where
   pub after : a < e
   pub last : IsFirstFrom (is_end image) a (e - 1)
 
@@ -36,29 +36,11 @@ module _ (image : HeapImage) (valid : IsValid image) where
   pub begin-live : (k : ℕ) → is_begin image k ≡ true → is_live_word image k ≡ true
   begin-live k h = first-or image valid k ∙ ap (λ b. b || continues_at image k) h
 
-  dead-no_end : (k : ℕ) → is_live_word image k ≡ false → is_end image k ≡ false
-  dead-no_end k dead = end-is k ∙ ap (λ b. b && not (continues_at image (k + 1))) dead
-
-  -- no object ends where no word is live
-  pub none-ends : (from : ℕ) → NoneFrom (is_live_word image) from → NoneFrom (is_end image) from
-  none-ends from none k l = dead-no_end k (none k l)
-
-  -- the first end from the first live word on
-  pub first-end : (from first e : ℕ) → IsFirstFrom (is_live_word image) from first → IsFirstFrom (is_end image) first e → IsFirstFrom (is_end image) from e
-  first-end from first e live end = record {
-    behind = omega (arith, live.behind, end.behind);
-    passes = end.passes;
-    least = λ k f l. elim (cases_lt k first) [
-      | inl before ↦ dead-no_end k (live.least k f before)
-      | inr behind ↦ end.least k behind l
-    ];
-  }
-
   on : (k : ℕ) → is_live_word image k ≡ true → is_begin image k ≡ false → continues_at image k ≡ true
   on k live other =
       continues_at-is k ∙ ap (λ b. b && not (is_begin image k)) live ∙ ap not other
 
-  ends-before : (a e : ℕ) → a < e → is_live_word image a ≡ true → ((k : ℕ) → a + 1 ≤ k → k < e → continues_at image k ≡ true) → continues_at image e ≡ false → IsBehind image a e
+  ends-before : (a e : ℕ) → a < e → is_live_word image a ≡ true → ((k : ℕ) → a + 1 ≤ k → k < e → continues_at image k ≡ true) → continues_at image e ≡ false → IsObjectEnd image a e
   ends-before a e after live goes stops = record {
     after = after;
     last = record {
@@ -78,27 +60,27 @@ module _ (image : HeapImage) (valid : IsValid image) where
       ]
 
   -- by the next begin and the first dead word before it
-  pub behind-is : (a : ℕ) (begin dead : Option ℕ) → is_live_word image a ≡ true
+  pub object_end-is : (a : ℕ) (begin dead : Option ℕ) → is_live_word image a ≡ true
       → MatchOption begin (NoneFrom (is_begin image) (a + 1)) (IsFirstFrom (is_begin image) (a + 1))
       → MatchOption dead (NoneBetween (is_dead_word image) (a + 1) (unwrap_or begin 18446744073709551615)) (IsFirstBetween (is_dead_word image) (a + 1) (unwrap_or begin 18446744073709551615))
-      → IsBehind image a (unwrap_or dead (unwrap_or begin 18446744073709551615))
-  behind-is a (Some b) (Some d) live f g =
+      → IsObjectEnd image a (unwrap_or dead (unwrap_or begin 18446744073709551615))
+  object_end-is a (Some b) (Some d) live f g =
       let from : a + 1 ≤ d = g.first.behind in
       let low : d < b = g.below in
       ends-before a d (omega arith) live
       (λ k m l. on k (other (is_live_word image k) (g.first.least k m l)) (f.least k m (omega arith)))
       (continues_at-is d ∙ ap (λ t. t && not (is_begin image d)) (opposite (is_live_word image d) g.first.passes))
-  behind-is a (Some b) None live f g =
+  object_end-is a (Some b) None live f g =
       let from : a + 1 ≤ b = f.behind in
       ends-before a b (omega arith) live
       (λ k m l. on k (other (is_live_word image k) (g k m l)) (f.least k m l))
       (continues_at-is b ∙ ap (λ t. is_live_word image b && not t) f.passes ∙ and-false (is_live_word image b))
-  behind-is a None (Some d) live f g =
+  object_end-is a None (Some d) live f g =
       let from : a + 1 ≤ d = g.first.behind in
       ends-before a d (omega arith) live
       (λ k m l. on k (other (is_live_word image k) (g.first.least k m l)) (f k m))
       (continues_at-is d ∙ ap (λ t. t && not (is_begin image d)) (opposite (is_live_word image d) g.first.passes))
-  behind-is a None None live f g =
+  object_end-is a None None live f g =
       let n : ℕ = heap_words image in
       let inside : a < n = live-inside image valid a live in
       let few = valid.limits.few_words in

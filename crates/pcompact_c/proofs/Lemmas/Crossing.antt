@@ -9,6 +9,8 @@ use Rattle.std_alloc.specs.contracts.vec.Vec as Vec
 use Rattle.std_heap.specs.contracts.Global as Heap
 use Rattle.std_heap.specs.contracts.GlobalAllocator.TheImpl.{ghosts}
 use Rattle.summary.specs.contracts.survey.Survey as Survey
+use Rattle.claim_board.specs.contracts.board.Board as Board
+use Rattle.claim_board.specs.contracts.desk.counter.BoardSeating.TheImpl.{ghosts as seating}
 use Rattle.claim_board.specs.contracts.pass.Pass as Pass
 use Rattle.claim_board.proofs.board.Board.TheSendSync as board
 use Rattle.claim_board.proofs.pass.Pass.TheSendSync as pass
@@ -18,6 +20,7 @@ use Rattle.ready_queues.proofs.ready.Thief.TheSendSync as thief
 use Rattle.collector.proofs.workers.worker.Worker.TheSendSync as worker
 use Rattle.collector.specs.contracts.session.Session as Session
 use Rattle.collector.specs.contracts.session.share.Share as Share
+use Rattle.collector.specs.contracts.workers.shared.Shared as Shared
 use Rattle.caller_heap.specs.contracts.part.Part as Part
 use Rattle.caller_heap.proofs.part.Origin.TheSendSync as origin
 
@@ -33,16 +36,29 @@ thieves_send = heap.Vec-send Thief.the_row thief.the_send
 thieves_sync : IsSync (Vec.the_row Thief.the_row Heap.the_row ghosts)
 thieves_sync = heap.Vec-sync Thief.the_row thief.the_sync
 
+-- what the workers of a session share
+shared_send : IsSend (Shared.the_field Board.the_row Pass.the_row seating).row
+shared_send =
+    let T = Shared.the_type Board.the_row Pass.the_row seating in
+    let all : AllSend (declared.fields T) = (survey_send, (board.the_send, (cells.the_send, (thieves_send, (search (crosses, sendable), tt))))) in
+    struct_send (declared.shape T) all
+
+shared_sync : IsSync (Shared.the_field Board.the_row Pass.the_row seating).row
+shared_sync =
+    let T = Shared.the_type Board.the_row Pass.the_row seating in
+    let all : AllSync (declared.fields T) = (survey_sync, (board.the_sync, (cells.the_sync, (thieves_sync, (search (crosses, sendable), tt))))) in
+    struct_sync (declared.shape T) all
+
 session_send : IsSend Session.the_row
 session_send =
     let T = Session.the_type in
-    let all : AllSend (declared.fields T) = (survey_send, (board.the_field_send, (cells.the_send, (thieves_send, (search (crosses, sendable), (search sendable, (search (crosses, sendable), tt))))))) in
+    let all : AllSend (declared.fields T) = (shared_send, (search sendable, (search (crosses, sendable), tt))) in
     recorded_send (Struct (declared.shape T)) T.D T.to T.to_one (struct_send (declared.shape T) all)
 
 session_sync : IsSync Session.the_row
 session_sync =
     let T = Session.the_type in
-    let all : AllSync (declared.fields T) = (survey_sync, (board.the_field_sync, (cells.the_sync, (thieves_sync, (search (crosses, sendable), (search sendable, (search (crosses, sendable), tt))))))) in
+    let all : AllSync (declared.fields T) = (shared_sync, (search sendable, (search (crosses, sendable), tt))) in
     recorded_sync (Struct (declared.shape T)) T.D T.to T.to_one (struct_sync (declared.shape T) all)
 
 session_shared : IsSend (Arc.the_row Session.the_row Heap.the_row ghosts)

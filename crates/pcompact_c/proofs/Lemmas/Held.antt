@@ -27,8 +27,8 @@ use Rattle.std_heap.proofs.Global.TheLaws as heap
 use Rattle.caller_heap.specs.contracts.part.Part as Part
 use Rattle.caller_heap.proofs.part.Part.TheLaws as part
 use Rattle.pcompact_c.specs.Handles.{held}
-use Rattle.pcompact_c.specs.contracts.sessions.handle.PcompactHandle as Handle
-use Rattle.pcompact_c.specs.contracts.sessions.handle.PcompactHandle.TheInside as Inside
+use Rattle.pcompact_c.specs.contracts.handle.PcompactHandle as Handle
+use Rattle.pcompact_c.specs.contracts.handle.PcompactHandle.TheInside as Inside
 
 abbrev pub E : Bx
 E = record { row = Part.the_row; laws = part.the_row_laws; al = record { row = Heap.the_row; laws = heap.the_row_laws; g = ghosts; d = dict; drops = impl [] tnil dnil } }

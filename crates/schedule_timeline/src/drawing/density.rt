@@ -1,4 +1,4 @@
-//! Draws a lane of which regions are too many for a bar each: the share of each cell's lines in which the worker has a
+//! Draws a lane that has too many regions for one bar each: the share of each cell's lines in which the worker has a
 //! region in hand, by colour.
 ghost use Rattle.std.specs.Prelude.{◌≤◌, ◌^◌};
 

@@ -15,14 +15,14 @@ use Rattle.object_heap.specs.declared.version.Version.{Version}
 use Rattle.object_heap.specs.Layout.{Layout, Own}
 use Rattle.object_heap.specs.HeapImage.{HeapImage, HasLiveList, AreBlocks, versioned_image_of, heap_words, region_words, region_count, region_of, start_of, word_at, block_of, size_at, is_word_of, is_live_word, live_words}
 use Rattle.summary.proofs.Lemmas.Spans.{count_by-cons, is_in_parts}
-use Rattle.summary.specs.NewAddresses.{prefix_end, new_address, new_live, new_top}
-use Rattle.summary.specs.WordMoves.{slid, origin}
+use Rattle.summary.specs.NewAddresses.{prefix_end, new_live, new_top}
+use Rattle.summary.specs.WordMoves.{origin}
 use Rattle.summary.specs.Compaction.{compact, redirected, compacted_word, moved, moved_word, written, is_deferred}
-use Rattle.summary.specs.RegionData.{region_addresses, partial_words, destination}
-use Rattle.summary.proofs.Lemmas.Addresses.{new_address-slid, range_with_len-add}
+use Rattle.summary.specs.RegionData.{region_addresses, partial_words}
+use Rattle.summary.proofs.Lemmas.Addresses.{range_with_len-add}
 use Rattle.summary.proofs.Lemmas.Prefix.{prefix_end_is}
-use Rattle.summary.proofs.Lemmas.Words.{count_by-range-le, live_words-add, live_words-le, is_live, one_owner}
-use Rattle.summary.proofs.Lemmas.Regions.{region_low, region_high, region_some, begun_left, partial-front, slid-destination}
+use Rattle.summary.proofs.Lemmas.Words.{count_by-range-le, live_words-add, live_words-le, one_owner}
+use Rattle.summary.proofs.Lemmas.Regions.{region_low, region_high, region_some, begun_left, partial-front}
 
 pub count_by-all : (p : ℕ → Bool) (b n : ℕ) → ((q : ℕ) → b ≤ q → q < b + n → p q ≡ true) → count_by p (range_with_len b n) ≡ n
 count_by-all p b zero h = refl
@@ -179,25 +179,6 @@ module _ (image : HeapImage) (sound : HasLiveList image) where
       let more : P / n * n ≤ a / n * n = mul-le (P / n) n (a / n) n up (omega arith) in
       omega arith
 
-  -- an object above the prefix end goes to its region's destination plus the number of live words before it there
-  pub new_address-region : (i : ℕ) → i < length image.live → prefix_end image ≤ place i → new_address image (place i) ≡ destination image (region_of image (place i)) + live_words image (region_start (place i)) (place i)
-  new_address-region i l above =
-      let some = (sound.sound i 0 l).header in
-      let a : ℕ = place i in
-      let live = is_live image sound i a l (omega arith) (omega arith) in
-      let first = new_address-slid image sound i 0 l some in
-      let z : slid image (a + 0) ≡ slid image a = ap (slid image) (add-zero a) in
-      let goes = slid-destination image sound (region_of image a) a (start_above a above) (region_low (region_words image) a) live in
-      omega arith
-
-  -- the same by the words up to an address in between, such as the start of a block
-  pub new_address-block : (i b : ℕ) → i < length image.live → prefix_end image ≤ place i → region_start (place i) ≤ b → b ≤ place i
-      → new_address image (place i) ≡ destination image (region_of image (place i)) + live_words image (region_start (place i)) b + live_words image b (place i)
-  new_address-block i b l above low high =
-      let whole = new_address-region i l above in
-      let cut = live_words-add image (region_start (place i)) b (place i) low high in
-      omega arith
-
   -- the partial words of a region are live
   pub partial-live : (r i : ℕ) → i < partial_words image r → is_live_word image (start_of image r + i) ≡ true
   partial-live r i l =
@@ -207,16 +188,6 @@ module _ (image : HeapImage) (sound : HasLiveList image) where
       let at = Any-from_list_any (λ a. ltb a s && is_word_of image a (s + i)) image.live h in
       let both = and_parts (ltb at.1 s) (is_word_of image at.1 (s + i)) at.4 in
       list_any-from_Any (λ a. is_word_of image a (s + i)) image.live (at.0, at.1, at.2, at.3, both.1)
-
-  pub partial-all : (r : ℕ) → live_words image (start_of image r) (start_of image r + partial_words image r) ≡ partial_words image r
-  partial-all r =
-      let s : ℕ = start_of image r in
-      let n : ℕ = partial_words image r in
-      let e : s + n - s ≡ n = omega arith in
-      ap (λ m. count_by (is_live_word image) (range_with_len s m)) e
-      ∙ count_by-all (is_live_word image) s n (λ q l k.
-      let at : s + (q - s) ≡ q = omega arith in
-      ap (is_live_word image) (sym at) ∙ partial-live r (q - s) (omega arith))
 
   covered : (i r : ℕ) → place i < start_of image r + partial_words image r → start_of image r ≤ place i → place i < start_of image r + region_words image → begun_left image (start_of image r) (place i) ≡ true
   covered i r less low high =
@@ -250,15 +221,6 @@ module _ (image : HeapImage) (sound : HasLiveList image) where
             let same : place i ≡ place k = one_owner image sound i k a l m (omega arith) (omega arith) (rw is parts.0) (rw is parts.1) in
             let no : ⊥ = omega arith in absurd no
       ]
-
-  -- the same by the partial words of the region and the live words after them
-  pub new_address-partial : (i : ℕ) → i < length image.live → prefix_end image ≤ place i
-      → new_address image (place i) ≡ destination image (region_of image (place i)) + partial_words image (region_of image (place i)) + live_words image (region_start (place i) + partial_words image (region_of image (place i))) (place i)
-  new_address-partial i l above =
-      let r : ℕ = region_of image (place i) in
-      let all = partial-all r in
-      let whole = new_address-block i (start_of image r + partial_words image r) l above (omega arith) (partial-before i l) in
-      omega arith
 
 -- ---- the blocks of the regions
 

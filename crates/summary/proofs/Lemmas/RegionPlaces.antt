@@ -31,12 +31,6 @@ module _ (image : HeapImage) (valid : IsValid image) where
   start_next : (r : ℕ) → start (r + 1) ≡ start r + R
   start_next r = omega arith
 
-  pub counts_length : (counts : List RegionCounts) → AreRegionCounts image counts → length counts ≡ region_count image
-  counts_length counts h = ap length h ∙ length-map-range_with_len (region_counts image) 0 (region_count image)
-
-  pub counts_at : (counts : List RegionCounts) → AreRegionCounts image counts → (r : ℕ) (d : RegionCounts) → r < region_count image → get_or counts r d ≡ region_counts image r
-  counts_at counts h r d l = ap (λ xs. get_or xs r d) h ∙ get_or-map-range_with_len (region_counts image) 0 (region_count image) r r d l (omega arith)
-
   pub data-le : (r : ℕ) → data_words image r ≤ R
   data-le r =
       let all = data-live_words image valid.live_list r in

@@ -2,11 +2,10 @@
 
 ghost use Rattle.std.specs.Prelude.{◌≡◌, ◌+◌, ◌<◌, ◌≤◌, ℕ, IsTrue, count_by};
 ghost use Rattle.std.specs.List.{range_with_len};
-ghost use Rattle.object_heap.specs.HeapImage.{HeapImage, HasLiveList, heap_words, region_of, start_of, size_at, live_words, is_null_or_live};
+ghost use Rattle.object_heap.specs.HeapImage.{HeapImage, HasLiveList, heap_words, size_at, live_words, is_null_or_live};
 ghost use Rattle.summary.specs.LiveObjects.{object_count, object_at};
 ghost use Rattle.summary.specs.NewAddresses.{prefix_end, new_address, new_end_of, new_top};
 ghost use Rattle.summary.specs.WordMoves.{slid};
-ghost use Rattle.summary.specs.RegionData.{partial_words, destination};
 ghost use Rattle.summary.specs.Compaction.{redirected};
 ghost use Rattle.summary.specs.Redirections.{is_counted};
 
@@ -41,32 +40,6 @@ pub fn new_address_by_counting()
     ensures { (image : HeapImage) → HasLiveList image → (i j : ℕ) → i < object_count image
         → j < size_at image (object_at image i)
         → new_address image (object_at image i) + j ≡ slid image (object_at image i + j) }
-{}
-
-/// An object above the prefix end goes to its region's destination plus the number of live words before it in the
-/// region.
-pub fn new_address_by_region()
-    ensures region { (image : HeapImage) → HasLiveList image → (i : ℕ) → i < object_count image
-        → prefix_end image ≤ object_at image i
-        → new_address image (object_at image i)
-        ≡ destination image (region_of image (object_at image i))
-        + live_words image (start_of image (region_of image (object_at image i)))
-        (object_at image i) }
-    ensures block { (image : HeapImage) → HasLiveList image → (i b : ℕ) → i < object_count image
-        → prefix_end image ≤ object_at image i
-        → start_of image (region_of image (object_at image i)) ≤ b → b ≤ object_at image i
-        → new_address image (object_at image i)
-        ≡ destination image (region_of image (object_at image i))
-        + live_words image (start_of image (region_of image (object_at image i))) b
-        + live_words image b (object_at image i) }
-    ensures partial { (image : HeapImage) → HasLiveList image → (i : ℕ) → i < object_count image
-        → prefix_end image ≤ object_at image i
-        → new_address image (object_at image i)
-        ≡ destination image (region_of image (object_at image i))
-        + partial_words image (region_of image (object_at image i))
-        + live_words image (start_of image (region_of image
-        (object_at image i)) + partial_words image (region_of image (object_at image i)))
-        (object_at image i) }
 {}
 
 /// The new value of a reference is the count of the numbers below it that are null, or 1 plus the address of a word that

@@ -6,73 +6,47 @@ ghost use Rattle.mark_bitmap.specs.Marks.{is_begin};
 ghost use Rattle.summary.specs.RegionPlaces.{region_counts, AreRegionCounts, IsOwnStart, AreOwnStarts};
 
 use super::region_counts::RegionCounts;
-use heap_image::Image;
+use crate::surveyor::Surveyor;
+use heap_image::{Image, image_is_valid};
 use mark_bitmap::Marks;
-use rayon::prelude::*;
 use std::alloc::{AllocError, Global};
-use std::thread::Threads;
 
-/// The least number of regions for a thread of its own: counting fewer takes less time than starting a thread.
-const LEAST: usize = 8192;
-
-/// The counts of all regions, made by at most `workers` threads.
-pub(crate) fn count_regions(
+/// The counts of all regions. The surveyor's threads count.
+pub(crate) fn count_regions<S: Surveyor>(
     alloc: Global,
     image: &Image,
     marks: &Marks,
-    workers: usize,
-    threads: &(impl Threads + Sync),
+    surveyor: &S,
 ) -> Result<Vec<RegionCounts>, AllocError>
-    requires { marks.now ≡ image.now }
+    requires start { S.may_start }
+    requires same { marks.now ≡ image.now }
     ensures { IfOk result (λ counts. AreRegionCounts image.now counts.items) }
 {
     let starts = own_starts(alloc, image, marks)?;
-    let starts = starts.as_slice();
-    let share = starts.len().div_ceil(workers.max(1)).max(LEAST);
-    if share >= starts.len() {
-        return count_in_turn(alloc, image, marks, starts);
-    }
-    (0..image.regions())
-        .into_par_iter()
-        .with_min_len(share)
-        .map(
-            |r: u32| -> RegionCounts
-                requires { (marks.now ≡ image.now) × AreOwnStarts image.now starts.now × (r < region_count image.now) }
-                ensures { result ≡ region_counts image.entry.now r }
-            { counts_of(image, marks, r, starts[r as usize]) },
-        )
-        .collect(threads, alloc)
+    let none = RegionCounts {
+        partial: 0,
+        live: 0,
+    };
+    let mut counts = vec![in alloc; none; starts.len()]?;
+    surveyor.count_regions(image, marks, starts.as_slice(), counts.as_mut_slice());
+    Ok(counts)
 }
 
-/// The counts of all regions, made by this thread alone.
-pub(crate) fn count_regions_alone(
-    alloc: Global,
-    image: &Image,
-    marks: &Marks,
-) -> Result<Vec<RegionCounts>, AllocError>
-    requires { marks.now ≡ image.now }
-    ensures { IfOk result (λ counts. AreRegionCounts image.now counts.items) }
-{
-    let starts = own_starts(alloc, image, marks)?;
-    count_in_turn(alloc, image, marks, starts.as_slice())
-}
-
-/// The counts of all regions, from their own starts, one after the other.
-fn count_in_turn(
-    alloc: Global,
+/// Counts the live words of region `r`. `starts` are the own starts of all regions.
+pub(crate) fn count_region(
     image: &Image,
     marks: &Marks,
     starts: &[u64],
-) -> Result<Vec<RegionCounts>, AllocError>
-    requires marks { marks.now ≡ image.now }
+    r: usize,
+    counts: &mut RegionCounts,
+)
+    requires same { marks.now ≡ image.now }
     requires starts { AreOwnStarts image.now starts.now }
-    ensures { IfOk result (λ counts. AreRegionCounts image.now counts.items) }
+    requires inside { r < region_count image.now }
+    ensures { counts.new ≡ region_counts image.now r }
 {
-    let mut counts = Vec::with_capacity(alloc, starts.len())?;
-    for r in 0..image.regions() {
-        counts.push(counts_of(image, marks, r, starts[r as usize]))?;
-    }
-    Ok(counts)
+    image_is_valid(image);
+    *counts = counts_of(image, marks, r as u32, starts[r]);
 }
 
 /// The counts of one region, by population counts. The live words before its own start belong to an object of an earlier

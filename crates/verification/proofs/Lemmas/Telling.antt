@@ -45,7 +45,7 @@ module _ (before after : HeapImage) (long : heap_words (compact before) ≡ heap
   new_root_at : (k : ℕ) → k < root_count before → root_at (compact before) k ≡ redirected before (root_at before k)
   new_root_at k l = ap (λ (xs : List ℕ). get_or xs k 0) roots_are ∙ get_or-map (redirected before) (roots_of before) k 0 0 l
 
-  abbrev new_root : ℕ → ℕ
+  abbrev pub new_root : ℕ → ℕ
   new_root i = redirected before (root_at before i)
 
   pub shape : HaveSameShape before after → HaveSameShape (compact before) after
@@ -63,7 +63,7 @@ module _ (before after : HeapImage) (long : heap_words (compact before) ≡ heap
   place_at : (k : ℕ) → k < object_count before → object_at (compact before) k ≡ new_address before (object_at before k)
   place_at k l = get_or-map (new_address before) before.live k 0 0 l
 
-  abbrev places : ℕ → ℕ
+  abbrev pub places : ℕ → ℕ
   places i = new_address before (object_at before i)
 
   pub live_same : HaveSameShape before after → AreAlike places (object_at after) (object_count before) → after.live ≡ new_live before

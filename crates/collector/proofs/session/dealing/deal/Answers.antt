@@ -14,10 +14,10 @@ pub loop-worker-preserved : goal.loop-worker-preserved
 loop-worker-preserved c =
     let i = c.loop-worker.invariant in
     let session = arc_value c.args.session in
-    let IsSeated : Worker _ → Type 0 = λ w. board_of w.seat ≡ identity session.desk in
-    let IsOfIt : Share → Type 0 = λ share. image_of share ≡ session.survey in
+    let IsSeated : Worker _ → Type 0 = λ w. board_of w.seat ≡ identity session.shared.desk in
+    let IsOfIt : Share → Type 0 = λ share. image_of share ≡ session.shared.survey in
     let both = front_and_last IsSeated c.loop-worker.workers.items c.pop.new.self.items c.in-Some.worker c.in-Some.ensures.items i.seats in
-    let one : IsOfIt c.new.result = ap (λ a. (arc_value {X = Session} a).survey) c.new.ensures ∙ ap (λ (s : Session). s.survey) c.in-Ok.ensures in
+    let one : IsOfIt c.new.result = ap (λ a. (arc_value {X = Session} a).shared.survey) c.new.ensures ∙ ap (λ (s : Session). s.shared.survey) c.in-Ok.ensures in
     let left = c.in-Some.ensures.cases in
     let more = c.push_reserved.ensures.len in
     record {

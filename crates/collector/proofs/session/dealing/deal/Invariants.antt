@@ -9,10 +9,10 @@ use Rattle.collector.proofs.session.dealing.deal.Given as goal
 -- each remaining worker has a seat of the session's board, and each share so far is of the session
 abbrev pub invariant-loop-worker : goal.invariant-loop-worker
 invariant-loop-worker l = record {
-  seats : All (λ w. board_of w.seat ≡ identity (arc_value l.session).desk) l.workers.items;
+  seats : All (λ w. board_of w.seat ≡ identity (arc_value l.session).shared.desk) l.workers.items;
   count : vec_len l.workers + vec_len l.shares ≡ vec_len l.fn.workers;
   room : vec_len l.workers + vec_len l.shares ≤ vec_capacity l.shares;
-  image : All (λ share. image_of share ≡ (arc_value l.session).survey) l.shares.items;
+  image : All (λ share. image_of share ≡ (arc_value l.session).shared.survey) l.shares.items;
 }
 
 abbrev pub decreases-loop-worker : goal.decreases-loop-worker

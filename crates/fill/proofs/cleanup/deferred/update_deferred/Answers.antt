@@ -7,14 +7,14 @@ use Rattle.fill.specs.MovedHeap.{moved_regions, updated_words, cleared}
 use Rattle.fill.proofs.cleanup.deferred.update_deferred.Goals as goal
 
 pub returns-clause-updated : goal.returns-clause-updated
-returns-clause-updated c =
-    let done : List (List ℕ) = c.update_regions.new.regions in
+returns-clause-updated g c =
+    let done : List (List ℕ) = c.update.new.regions in
     subst (λ (image : HeapImage). concat done ≡ updated_words image) c.plan-plan.ensures
-    (c.whole_heap.ensures.updated c.args.regions.now done (subst (λ (image : HeapImage). c.args.regions.now ≡ moved_regions image) (sym c.plan-plan.ensures) c.requires) c.update_regions.ensures)
+    (c.whole_heap.ensures.updated c.args.regions.now done (subst (λ (image : HeapImage). c.args.regions.now ≡ moved_regions image) (sym c.plan-plan.ensures) c.requires.moved) c.update.ensures)
 
 pub returns-clause-compacted : goal.returns-clause-compacted
-returns-clause-compacted c =
-    let done : List (List ℕ) = c.update_regions.new.regions in
+returns-clause-compacted g c =
+    let done : List (List ℕ) = c.update.new.regions in
     subst (λ (image : HeapImage). cleared (new_top image) (concat done) ≡ (compact image).words) c.plan-plan.ensures
-    (ap (cleared (new_top c.plan-plan.result.now)) (c.whole_heap.ensures.updated c.args.regions.now done (subst (λ (image : HeapImage). c.args.regions.now ≡ moved_regions image) (sym c.plan-plan.ensures) c.requires) c.update_regions.ensures)
+    (ap (cleared (new_top c.plan-plan.result.now)) (c.whole_heap.ensures.updated c.args.regions.now done (subst (λ (image : HeapImage). c.args.regions.now ≡ moved_regions image) (sym c.plan-plan.ensures) c.requires.moved) c.update.ensures)
     ∙ c.whole_heap.ensures.compacted)

@@ -9,10 +9,9 @@ use Rattle.mark_bitmap.proofs.marks.Marks.with_bits.Goals as goal
 pub invariant_of-result : goal.invariant_of-result
 invariant_of-result c =
     let image : HeapImage = c.args.image.now in
-    let valid : IsValid image = c.region_log.ensures.valid in
-    let marks : AreMarks image c.region_log.result c.args.begins c.args.live.items = record {
+    let valid : IsValid image = c.image_is_valid.ensures in
+    let marks : AreMarks image c.args.begins c.args.live.items = record {
       valid = valid;
-      log = c.region_log.ensures.value;
       bits = record {
         begins_room = c.requires.begins.room;
         live_room = c.requires.room;

@@ -4,7 +4,7 @@ use Rattle.object_heap.specs.HeapImage.{region_words, heap_words, last_end}
 use Rattle.summary.specs.NewAddresses.{greatest, dead_words_below, is_allowed}
 use Rattle.summary.specs.RegionData.{data_words}
 use Rattle.summary.specs.declared.plan.region_counts.RegionCounts.{RegionCounts}
-use Rattle.summary.proofs.Lemmas.RegionPlaces.{counts_length, counts_at, data-le, dead-next}
+use Rattle.summary.proofs.Lemmas.RegionPlaces.{data-le, dead-next}
 use Rattle.summary.proofs.Lemmas.Prefix.{greatest-le, prefix-allowed, prefix-refused}
 use Rattle.summary.proofs.plan.region_places.prefix_end.Goals as goal
 use Rattle.summary.proofs.plan.region_places.prefix_end.Goals.{then-dead-allowance, else-dead-allowance}
@@ -19,7 +19,7 @@ pub bounds-counts-r : goal.bounds-counts-r
 bounds-counts-r c =
     let image = c.args.image.now in
     let n = c.region_words-region_words.ensures in
-    let long = counts_length image n.valid c.args.counts.now c.requires in
+    let long = c.requires.number in
     let inside = in_range c.loop-r.r c.last_end.result c.region_words-region_words.result (region_words image) (heap_words image) n.some n.value c.loop-r-test.true c.last_end.ensures.inside in
     omega arith
 
@@ -30,7 +30,7 @@ overflow_sub-dead c =
     let n = c.region_words-region_words.ensures in
     let none : RegionCounts = record { partial = 0; live = 0 } in
     let inside = in_range r c.last_end.result c.region_words-region_words.result (region_words image) (heap_words image) n.some n.value c.loop-r-test.true c.last_end.ensures.inside in
-    let is : c.live_words.result ≡ data_words image r = c.live_words.ensures ∙ ap (λ (k : RegionCounts). k.partial + k.live) (counts_at image n.valid c.args.counts.now c.requires r none inside) in
+    let is : c.live_words.result ≡ data_words image r = c.live_words.ensures ∙ ap (λ (k : RegionCounts). k.partial + k.live) (c.requires.each r none inside) in
     let few = data-le image n.valid r in
     let same = n.value in
     omega arith
@@ -42,7 +42,7 @@ loop-r-preserved c =
     let n = c.region_words-region_words.ensures in
     let none : RegionCounts = record { partial = 0; live = 0 } in
     let inside = in_range r c.last_end.result c.region_words-region_words.result (region_words image) (heap_words image) n.some n.value c.loop-r-test.true c.last_end.ensures.inside in
-    let is : c.live_words.result ≡ data_words image r = c.live_words.ensures ∙ ap (λ (k : RegionCounts). k.partial + k.live) (counts_at image n.valid c.args.counts.now c.requires r none inside) in
+    let is : c.live_words.result ≡ data_words image r = c.live_words.ensures ∙ ap (λ (k : RegionCounts). k.partial + k.live) (c.requires.each r none inside) in
     let some : c.region_words-region_words.result ≡ region_words image = n.value in
     let now : ℕ = c.loop-r.dead + (c.region_words-region_words.result - c.live_words.result) in
     let dead : now ≡ dead_words_below image ((r + 1) * region_words image) =

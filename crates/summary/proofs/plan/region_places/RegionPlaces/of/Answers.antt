@@ -11,23 +11,23 @@ use Rattle.summary.specs.RegionPlaces.{placed_region}
 use Rattle.summary.specs.declared.plan.region_counts.RegionCounts.{RegionCounts}
 use Rattle.summary.specs.declared.region_data.RegionData.{RegionData}
 use Rattle.summary.proofs.Lemmas.Addresses.{prefix_end-le}
-use Rattle.summary.proofs.Lemmas.RegionPlaces.{counts_length, counts_at, destination-low, destination-high, destination-step, destination-first, destination-none, destination-fits}
+use Rattle.summary.proofs.Lemmas.RegionPlaces.{destination-low, destination-high, destination-step, destination-first, destination-none, destination-fits}
 use Rattle.summary.proofs.Lemmas.Steps.{destination-top}
 use Rattle.summary.proofs.plan.region_places.RegionPlaces.of.Goals as goal
 use Rattle.summary.proofs.plan.region_places.RegionPlaces.of.Goals.{then-region-prefix, else-region-prefix}
 
 pub placed-region-requires-clause-inside : goal.placed-region-requires-clause-inside
 placed-region-requires-clause-inside c =
-    let long = counts_length c.args.image.now c.prefix_end-prefix.ensures.valid c.args.counts.now c.requires in
+    let long = c.requires.number in
     let below = c.loop-r-test.true in
     omega arith
 
 pub placed-region-requires-clause-counts : goal.placed-region-requires-clause-counts
 placed-region-requires-clause-counts c =
     let none : RegionCounts = record { partial = 0; live = 0 } in
-    let long = counts_length c.args.image.now c.prefix_end-prefix.ensures.valid c.args.counts.now c.requires in
+    let long = c.requires.number in
     let below = c.loop-r-test.true in
-    counts_at c.args.image.now c.prefix_end-prefix.ensures.valid c.args.counts.now c.requires c.loop-r.r none (omega arith)
+    c.requires.each c.loop-r.r none (omega arith)
 
 pub overflow_add-next : goal.overflow_add-next
 overflow_add-next c =
@@ -35,10 +35,10 @@ overflow_add-next c =
     let valid = c.prefix_end-prefix.ensures.valid in
     let r = c.loop-r.r in
     let none : RegionCounts = record { partial = 0; live = 0 } in
-    let long = counts_length image valid c.args.counts.now c.requires in
+    let long = c.requires.number in
     let below = c.loop-r-test.true in
     let inside : r < region_count image = omega arith in
-    let is : c.live_words.result ≡ data_words image r = c.live_words.ensures ∙ ap (λ (k : RegionCounts). k.partial + k.live) (counts_at image valid c.args.counts.now c.requires r none inside) in
+    let is : c.live_words.result ≡ data_words image r = c.live_words.ensures ∙ ap (λ (k : RegionCounts). k.partial + k.live) (c.requires.each r none inside) in
     let to : c.placed-region.result.destination ≡ destination image r = ap (λ (k : RegionData). k.destination) c.placed-region.ensures in
     let prefix = c.prefix_end-prefix.ensures.value in
     let behind = c.if-region-prefix.true in
@@ -60,7 +60,7 @@ loop-r-preserved c =
     let valid = c.prefix_end-prefix.ensures.valid in
     let r = c.loop-r.r in
     let none : RegionCounts = record { partial = 0; live = 0 } in
-    let long = counts_length image valid c.args.counts.now c.requires in
+    let long = c.requires.number in
     let below = c.loop-r-test.true in
     let inside : r < region_count image = omega arith in
     let to : c.placed-region.result.destination ≡ destination image r = ap (λ (k : RegionData). k.destination) c.placed-region.ensures in
@@ -74,7 +74,7 @@ loop-r-preserved c =
     elim c.if-region-prefix.branch [
       | then-region-prefix w ↦
           let behind = w.if-region-prefix.true in
-          let is : w.live_words.result ≡ data_words image r = w.live_words.ensures ∙ ap (λ (k : RegionCounts). k.partial + k.live) (counts_at image valid c.args.counts.now c.requires r none inside) in
+          let is : w.live_words.result ≡ data_words image r = w.live_words.ensures ∙ ap (λ (k : RegionCounts). k.partial + k.live) (c.requires.each r none inside) in
           let high : prefix_end image ≤ start_of image r = elim (cases_lt (start_of image r) (prefix_end image)) [
             | inl low ↦ let at = destination-low image valid r low in let no : ⊥ = omega arith in absurd no
             | inr high ↦ high
@@ -96,7 +96,7 @@ returns c =
     let image = c.args.image.now in
     let valid = c.prefix_end-prefix.ensures.valid in
     let n : ℕ = region_words image in
-    let long = counts_length image valid c.args.counts.now c.requires in
+    let long = c.requires.number in
     let up = c.loop-r.auto.r-end in
     let down = c.loop-r-test.false in
     let all : c.loop-r.r ≡ region_count image = omega arith in

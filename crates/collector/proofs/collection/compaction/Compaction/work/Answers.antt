@@ -1,0 +1,23 @@
+use Rattle.std.proofs.Common.{◌≡◌, ℕ, length, sym, ap, ◌∙◌, subst, arith}
+use Rattle.collector.specs.Halts.{IsLostTo, MayBeRefused}
+use Rattle.collector.proofs.Lemmas.Failing.{HasFailed, cause_of, front_of}
+use Rattle.summary.specs.RegionData.{fill_count}
+use Rattle.collector.proofs.collection.compaction.Compaction.work.Goals as goal
+
+pub returns-in-Some-clause-fault : goal.returns-in-Some-clause-fault
+returns-in-Some-clause-fault g c =
+    let may : ℕ → ℕ → Type 0 = g.G.Gate.may_refuse c.args.gate.now in
+    let may_fail = g.D.Seating.may_fail in
+    let survey = c.args.self.now.shared.survey in
+    let fault = c.in-Some.fault in
+    let workers = c.args.self.now.workers in
+    let before = c.as_mut_slice.result.now in
+    let after = c.work_all.new.workers in
+    let count : length before ≡ workers.len = ap length c.as_mut_slice.ensures.value ∙ sym workers.ok.0 in
+    let kept : length after ≡ length before = c.work_all.auto.workers in
+    let own : workers.len ≡ length after = omega (arith, kept, count) in
+    let lowest = c.in-Some.ensures in
+    let met : HasFailed c.as_slice.result.now fault = (lowest.0, lowest.1, lowest.2, lowest.3, lowest.4) in
+    let failed = subst (λ ws. HasFailed ws fault) (c.as_slice.ensures.value ∙ front_of workers.len after _ own) met in
+    subst (λ (n : ℕ). IsLostTo may_fail may n survey fault) count
+    (cause_of may_fail (λ r. MayBeRefused (λ k. may k r) (length before)) (fill_count survey) after fault c.work_all.ensures.halts failed)

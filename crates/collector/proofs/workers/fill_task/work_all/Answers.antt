@@ -1,0 +1,11 @@
+use denote.Param.Send.{sendable}
+use Rattle.std.proofs.Crossing.{crosses}
+use Rattle.collector.proofs.Lemmas.Crossing.{shared_sync}
+use Rattle.collector.proofs.workers.fill_task.work_all.Goals as goal
+
+pub for_each_mut-requires-sync-F : goal.for_each_mut-requires-sync-F
+for_each_mut-requires-sync-F g c =
+    let desk = c.type_bounds.sync-D in
+    let gate = c.type_bounds.sync-G in
+    let wait = c.type_bounds.sync-W in
+    search (crosses, sendable, shared_sync) depth 60 fits 20000

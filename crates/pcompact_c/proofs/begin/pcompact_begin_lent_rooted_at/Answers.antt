@@ -1,0 +1,23 @@
+use Rattle.std.proofs.Common.{◌∙◌, sym, inl, inr}
+use Rattle.object_heap.specs.declared.version.Version.TheVariants.{Three}
+use Rattle.caller_heap.specs.HeapWords.{heap_bytes}
+use Rattle.caller_heap.specs.Lent.{heap_in}
+use Rattle.pcompact_c.proofs.Lemmas.Lent.{why_not_dealt}
+use Rattle.pcompact_c.proofs.begin.pcompact_begin_lent_rooted_at.Goals as goal
+
+pub returns-in-Ok-clause-begun : goal.returns-in-Ok-clause-begun
+returns-in-Ok-clause-begun c none =
+    let lent = c.in-Ok.ensures in (c.in-Ok.image, lent.valid, lent.text, c.deal_lent.ensures.parts none)
+
+pub returns-in-Ok-clause-back : goal.returns-in-Ok-clause-back
+returns-in-Ok-clause-back c some =
+    elim (c.deal_lent.ensures.back some) [ inl held ↦ inl (held ∙ sym c.in-Ok.ensures.words) | inr lost ↦ inr lost ]
+
+pub returns-in-Ok-clause-fault : goal.returns-in-Ok-clause-fault
+returns-in-Ok-clause-fault c some =
+    let why = c.deal_lent.ensures.fault some in
+    let bytes = heap_bytes Three c.args.settings.heap (heap_in c.args.words.now) c.args.roots.now in
+    (why.0, why.1, why_not_dealt c.args.settings.heap.region_log c.args.words.now bytes why.0 why.2)
+
+pub returns-in-Err-clause-fault : goal.returns-in-Err-clause-fault
+returns-in-Err-clause-fault c some = (c.in-Err.fault, c.of-in-Err.ensures, inr c.in-Err.ensures.fault)

@@ -1,0 +1,192 @@
+//! A worker's part in a collection, as a host keeps it.
+ghost use Rattle.std.specs.Prelude.{◌≡◌, true, false, IsTrue, Some, None, Option, MatchOption, is_some};
+ghost use Rattle.caller_heap.specs.declared.part.Part.{Part};
+ghost use Rattle.pcompact_c.specs.Handles.{parts_coded};
+
+use crate::raw_box::RawBox;
+use caller_heap::{Origin, Part, suits};
+use collector::{Halt, Progress};
+use std::alloc::Global;
+use std::marker::{Model, Send};
+use std::mem;
+
+/// One worker's part in a collection by several threads, or none. One thread at a time may use it.
+///
+/// A contract sees whether it is held, its place, and its part if it has one. All zeros are a handle without a part.
+#[repr(C)]
+pub struct PcompactHandle {
+    is_held: bool,
+    at: *mut u8,
+    ghost part: { Option Part } by { parts_coded },
+}
+
+impl Model for PcompactHandle {
+    ghost use Rattle.std.specs.Prelude.{◌≡◌, Bool, Option, is_some};
+    ghost use Rattle.std.specs.Ptr.{Ptr};
+    ghost use Rattle.caller_heap.specs.declared.part.Part.{Part};
+    ghost use Rattle.std.specs.Coded.{codes};
+    ghost use Rattle.pcompact_c.specs.Handles.{held, parts_coded};
+
+    ghost Value = { Bool × Ptr × Option Part };
+
+    ghost coded = { Prim.hlevel (codes, parts_coded) };
+
+    ghost view = { λ h. (h.is_held, h.at, h.part) };
+
+    ghost inverse = { λ v. record { is_held = v.0; at = v.1; part = v.2 } };
+
+    ghost invariant = { λ h. h.is_held ≡ is_some h.part };
+
+    ghost also_owns = { λ h. held h.at h.part };
+}
+
+unsafe impl Send for PcompactHandle {}
+
+impl PcompactHandle {
+    ghost use Rattle.pcompact_c.specs.Handles.{image_in, origin_in};
+
+    /// A handle without a part: all zeros.
+    fn empty() -> PcompactHandle
+        ensures free { result.0 ≡ false }
+        ensures none { result.2 ≡ None }
+    {
+        PcompactHandle {
+            is_held: false,
+            at: std::ptr::null_mut(),
+        }
+    }
+
+    /// The handle of a boxed part.
+    fn of(part: RawBox<Part, Global>) -> PcompactHandle
+        ensures { result.2 ≡ Some part.value }
+    {
+        let RawBox { at, alloc: _ } = part;
+        PcompactHandle {
+            is_held: true,
+            at: at as *mut u8,
+        }
+    }
+
+    /// The boxed part of a handle.
+    fn take(self, alloc: Global) -> RawBox<Part, Global>
+        requires { is_some self.2 ≡ true }
+        ensures { self.2 ≡ Some result.value }
+    {
+        let PcompactHandle { is_held: _, at } = self;
+        RawBox {
+            at: at as *mut Part,
+            alloc,
+        }
+    }
+
+    /// Drops a handle that has no part.
+    fn vacate(self)
+        requires { self.0 ≡ false }
+    {
+        let PcompactHandle { is_held: _, at: _ } = self;
+    }
+
+    /// Whether it has a part.
+    pub(crate) fn is_held(&mut self) -> bool
+        ensures held { result ≡ self.old.0 }
+        ensures same { self.new ≡ self.old }
+    {
+        self.is_held
+    }
+
+    /// The part of the handle, which has none then.
+    pub(crate) fn leave(&mut self, alloc: Global) -> Option<Box<Part, Global>>
+        ensures free { self.new.0 ≡ false }
+        ensures none { self.new.2 ≡ None }
+        ensures part { MatchOption result (self.old.2 ≡ None) (λ part. self.old.2 ≡ Some part.value) }
+    {
+        let handle = mem::replace(self, PcompactHandle::empty());
+        if handle.is_held {
+            Some(handle.take(alloc).into_box())
+        } else {
+            handle.vacate();
+            None
+        }
+    }
+
+    /// From now on it has this part, in place of none.
+    pub(crate) fn enter(&mut self, part: Box<Part, Global>)
+        requires { self.old.0 ≡ false }
+        ensures { self.new.2 ≡ Some part.value }
+    {
+        mem::replace(self, PcompactHandle::of(RawBox::of(part))).vacate();
+    }
+
+    /// Counts the share among those at hand. Returns whether the handle is held, by a part of a collection whose words come
+    /// from there.
+    pub(crate) fn count_in(&mut self, alloc: Global, origin: Origin) -> bool
+        ensures part { self.new.2 ≡ self.old.2 }
+        ensures origin { IsTrue result → origin_in self.old ≡ Some origin }
+    {
+        let Some(part) = self.leave(alloc) else {
+            return false;
+        };
+        part.share.count_in();
+        let is_from = part.origin == origin;
+        self.enter(part);
+        is_from
+    }
+
+    /// Takes the share, if it has one, out of that count.
+    pub(crate) fn count_out(&mut self, alloc: Global)
+        ensures { self.new.2 ≡ self.old.2 }
+    {
+        if let Some(part) = self.leave(alloc) {
+            part.share.count_out();
+            self.enter(part);
+        }
+    }
+
+    /// Whether it has a share, exactly `shares` shares are counted, and its session has no other.
+    pub(crate) fn are_all_counted(&mut self, alloc: Global, shares: usize) -> bool
+        ensures { self.new.2 ≡ self.old.2 }
+    {
+        let Some(part) = self.leave(alloc) else {
+            return false;
+        };
+        let are_all = part.share.are_all_counted(shares);
+        self.enter(part);
+        are_all
+    }
+
+    /// Whether it has a share of a session whose image has `regions` regions and `numbers` live addresses or roots.
+    pub(crate) fn suits(&mut self, alloc: Global, regions: usize, numbers: usize) -> bool
+        ensures { self.new.2 ≡ self.old.2 }
+    {
+        let Some(part) = self.leave(alloc) else {
+            return false;
+        };
+        let it_suits = suits(&part.share, regions, numbers);
+        self.enter(part);
+        it_suits
+    }
+
+    /// Lets the worker fill regions that are ready, at most `turns`. Returns `None` if the handle isn't held.
+    pub(crate) fn work(&mut self, alloc: Global, turns: u64) -> Option<Result<Progress, Halt>>
+        ensures image { image_in self.new ≡ image_in self.old }
+        ensures origin { origin_in self.new ≡ origin_in self.old }
+        ensures held { MatchOption result (self.old.2 ≡ None) (λ _. is_some self.old.2 ≡ true) }
+    {
+        let mut part = self.leave(alloc)?;
+        let worked = part.share.work(turns);
+        self.enter(part);
+        Some(worked)
+    }
+
+    /// Lets the worker fill regions until all are settled. Returns `None` if the handle isn't held.
+    pub(crate) fn work_all(&mut self, alloc: Global) -> Option<Result<(), Halt>>
+        ensures image { image_in self.new ≡ image_in self.old }
+        ensures origin { origin_in self.new ≡ origin_in self.old }
+        ensures held { MatchOption result (self.old.2 ≡ None) (λ _. is_some self.old.2 ≡ true) }
+    {
+        let mut part = self.leave(alloc)?;
+        let worked = part.share.work_all();
+        self.enter(part);
+        Some(worked)
+    }
+}
