@@ -97,8 +97,8 @@ pub fn suits(share: &Share, regions: usize, numbers: usize) -> bool
 /// compaction back to the host, each region in its place, and writes the new live addresses or roots. `others` are the
 /// shares of all other workers.
 ///
-/// Fails with fault 12 if these aren't all shares of one session, and with fault 15 if the words weren't lent, or a cell or
-/// a queue contradicts the order of work. The words are lost then.
+/// Fails with fault 12 if these aren't all shares of one session, and with fault 15 if the words weren't lent, or a cell
+/// contradicts the order of work. The words are lost then.
 pub fn end_lent_words(
     words: &mut [HostWords],
     tail: &mut [u64],

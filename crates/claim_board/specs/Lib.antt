@@ -1,6 +1,13 @@
 pub mod Views
 pub mod Steps
 pub mod Rule
+pub mod Slots
+pub mod Holds
+pub mod Holdings
+pub mod Places
+pub mod RegionBoards
+pub mod Sharings
+pub mod Unions
 pub mod Boards
 pub mod Callers
 pub mod Notes

@@ -2,7 +2,7 @@
 use Rattle.std.specs.Prelude.{◌≡◌, ℕ, suc, ◌+◌, ◌%◌, ◌<◌, cond, ◌||◌, ◌==◌, List, [], ◌∷◌, ◌++◌, length, slice_index, is_some, nat_lt}
 use mathlib.Core.Option.{some}
 use lib.ListN.{get_elem?}
-use Rattle.atomic_table.specs.Table.{State as Table, Me, Step}
+use Rattle.atomic_table.specs.Table.{Me, Step}
 use Rattle.scheduler.specs.declared.event.Event.{Event}
 use Rattle.scheduler.specs.declared.reply.Reply.{Reply}
 use Rattle.scheduler.specs.declared.reply.Reply.TheVariants.{Yes, No, Open, Outside, Claimed, Filled, Last, NotLast, Done, All, More}
@@ -10,9 +10,8 @@ use Rattle.scheduler.specs.declared.entry.Entry.{Entry}
 use Rattle.scheduler.specs.MoveTable.{MoveTable, IsMoveTable, to_fill, region_count}
 use Rattle.scheduler.specs.State.{State, readers_left, unsettled}
 use Rattle.scheduler.specs.History.{entry, calls_by, state_of, BeginsWith, IsLegal}
-use Rattle.claim_board.specs.declared.rule.key.Key.{Key}
 use Rattle.claim_board.specs.declared.rule.view.View.{View}
-use Rattle.claim_board.specs.Views.{fresh, rest_of, head_of, times_held, total, AllFit, ViewFits, IsPassView, worker_of, seen_of, mine_of, steps_of}
+use Rattle.claim_board.specs.Views.{rest_of, head_of, times_held, total, AllFit, ViewFits, IsPassView, worker_of, seen_of, mine_of, steps_of}
 use Rattle.claim_board.specs.Steps.{touch_of}
 
 -- the word of a region: its readers left, and 16 more if it isn't to be filled; 8 once it is claimed, 12 once it is filled
@@ -33,12 +32,6 @@ pub record Kept (m : MoveTable) (workers : ℕ) (words : List ℕ) (views : List
   pub once : (x : ℕ) → total (λ v. times_held x v.holds) views ≡ cond (nat_lt x workers) 1 0
   pub counted : total (λ v. length v.holds) views ≡ workers
 
-abbrev pub kept : Key → Table ℕ View → Type 0
-kept k table = Kept k.moves k.workers table.words table.views
-
-abbrev pub all_workers : Key → View
-all_workers k = record { note = []; holds = fresh 0 k.workers }
-
 abbrev pub others_of : View → View
 others_of v = record { note = v.note; holds = rest_of v.holds }
 
@@ -58,9 +51,9 @@ pub record Extends (m : MoveTable) (workers worker : ℕ) (seen mine : List Entr
   pub seen_calls : calls_by worker seen' ≡ mine'
 
 -- what a pass sees after a step that adds an entry
-abbrev pub added : MoveTable → ℕ → Event → (ℕ → Reply) → Step ℕ → Me ℕ View → ℕ → Me ℕ View → Type 0
+abbrev pub added : {S : Type 0} → MoveTable → ℕ → Event → (ℕ → Reply) → Step S → Me S View → ℕ → Me S View → Type 0
 added m workers event reply s v found after =
-    IsPassView after.0 × (worker_of after.0 ≡ worker_of v.0) × (after.1 ≡ v.1)
+    IsPassView after.0 × (worker_of after.0 ≡ worker_of v.0)
     × Extends m workers (worker_of v.0) (seen_of v.0) (mine_of v.0) event (reply found) (seen_of after.0) (mine_of after.0)
     × (steps_of after.0 ≡ steps_of v.0 ++ touch_of s ∷ [])
 
@@ -107,19 +100,19 @@ pub record Sees (m : MoveTable) (workers worker : ℕ) (note seen mine seen' min
   pub mine_is : mine' ≡ mine
   pub seen_calls : calls_by worker seen' ≡ mine
 
-abbrev pub sees : MoveTable → ℕ → Step ℕ → Me ℕ View → ℕ → Me ℕ View → Type 0
+abbrev pub sees : {S : Type 0} → MoveTable → ℕ → Step S → Me S View → ℕ → Me S View → Type 0
 sees m workers s v found after =
     IsPassView after.0 × (worker_of after.0 ≡ worker_of v.0) × (after.1 ≡ v.1)
     × Sees m workers (worker_of v.0) v.0.note (seen_of v.0) (mine_of v.0) (seen_of after.0) (mine_of after.0)
     × (steps_of after.0 ≡ steps_of v.0 ++ touch_of s ∷ [])
 
 -- the pass has seen what was passed to it
-abbrev pub takes_note : Step ℕ → Me ℕ View → ℕ → Me ℕ View → Type 0
+abbrev pub takes_note : {S : Type 0} → Step S → Me S View → ℕ → Me S View → Type 0
 takes_note s v found after =
     IsPassView after.0 × (worker_of after.0 ≡ worker_of v.0) × (after.1 ≡ v.1) × (seen_of after.0 ≡ v.0.note) × (mine_of after.0 ≡ mine_of v.0) × (calls_by (worker_of v.0) v.0.note ≡ mine_of v.0)
     × (steps_of after.0 ≡ steps_of v.0 ++ touch_of s ∷ [])
 
 -- The seat has seen all of a legal history, which has all its workers' calls. The value found is the number of regions
 -- that aren't settled.
-abbrev pub surveys : MoveTable → ℕ → Step ℕ → Me ℕ View → ℕ → Me ℕ View → Type 0
+abbrev pub surveys : {S : Type 0} → MoveTable → ℕ → Step S → Me S View → ℕ → Me S View → Type 0
 surveys m workers s v found after = IsLegal m workers after.0.note × AllFit workers after.0.note v.0.holds × (found ≡ unsettled m (state_of after.0.note))

@@ -1,4 +1,4 @@
-use crate::rule::steps::Place;
+use crate::rule::Place;
 use std::snapshot::Snapshot;
 
 /// A finished board: all its regions to be filled are settled. Contracts see its whole history. The

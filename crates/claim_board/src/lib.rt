@@ -11,6 +11,13 @@
 //! - Contracts see a pass as two lists: `seen`, a legal history of the scheduler, and `mine`,
 //!   the worker's own calls in it. A call appends one entry to a legal history that begins with `seen`.
 //!   `Board::meet` and `Board::finish` join what passes have seen.
+//! - `RegionBoard` is a board that keeps the regions as well, and for each pair of the moves the right to
+//!   read the source. Its calls make the same atomic steps. A granted claim has the region, with its
+//!   original words, and nobody reads it any more; `open` lends the right to read a source, `drain` puts
+//!   it back, and `complete` puts the region back with its moved words. So nothing is locked or counted
+//!   for a region, and no call finds one in a wrong state. `finish` returns all regions. A pass has one
+//!   ticket at a time, and a ticket one opening. What is given up, or dropped before `finish`, stays
+//!   allocated for good, but for regions that have moved.
 //! - `Ticket`, `Opening`, `Closed`, `Right`, `Written` and `Done` can't be dropped. Each must be spent
 //!   by the call that its page names, or given up.
 //! - `Desk` is the trait of the calls that a fill makes. `Board` implements it, and so does `Recorder`,
@@ -22,13 +29,16 @@
 //!   `writers_have_no_pending_readers` is about a right and all destinations,
 //!   `no_region_is_read_and_written` about a right and an opening of passes that have met, and
 //!   `nothing_is_read_from_a_ticket` about two tickets;
+//!   `calls_of_passes_are_gained`, `lowest_claims_of_one_worker_are_granted` and
+//!   `other_calls_leave_what_is_held` are about passes of a `RegionBoard`;
 //!   `appended_calls_are_gained` leads from a pass to these laws, and `appended_calls_leave_others`
 //!   says for one call of a pass what the first two say.
 //!
 //! `specs/Rule.antt` (`Kept`) defines the rule of the words: at every moment there is one legal history
 //! that begins with what every living pass has seen, and each word has the value that this history
-//! determines. All contracts are proved. No contract says that a claim ever succeeds, how threads take
-//! turns, or how long a call takes.
+//! determines. The table of a board may have slots as well, which hold what the same history says
+//! (`specs/Slots.antt`); that of a `Board` has none. All contracts are proved. No contract says that a
+//! claim ever succeeds, how threads take turns, or how long a call takes.
 #![tactic(auto)]
 
 mod board;
@@ -40,6 +50,7 @@ mod laws;
 mod make;
 mod meet;
 mod pass;
+mod regions;
 mod rule;
 mod tokens;
 
@@ -54,6 +65,13 @@ pub use laws::{
     writers_have_no_pending_readers,
 };
 pub use pass::Pass;
+pub use regions::laws::{
+    calls_of_passes_are_gained, lowest_claims_of_one_worker_are_granted,
+    other_calls_leave_what_is_held,
+};
+pub use regions::making::MovedWords;
+pub use regions::region_board::RegionBoard;
+pub use regions::region_ticket::RegionTicket;
 pub use tokens::closed::Closed;
 pub use tokens::done::Done;
 pub use tokens::drained::Drained;

@@ -1,19 +1,22 @@
 //! `Board::new`, and the board's moves.
 ghost use Rattle.std.specs.Prelude.{◌≡◌, ℕ, ◌+◌, ◌<◌, ◌≤◌, suc, [], vec_len, IfOk, slice_index, cond};
+ghost use Rattle.std.specs.Vec.{vec_capacity};
 ghost use Rattle.scheduler.specs.MoveTable.{IsMoveTable, region_count};
 ghost use Rattle.scheduler.specs.State.{opening, unsettled};
 ghost use Rattle.claim_board.specs.Views.{fresh};
 ghost use Rattle.claim_board.specs.Rule.{word_of};
-ghost use Rattle.claim_board.specs.Boards.{moves as moves_of, worker_count, identity, ArePasses};
+ghost use Rattle.claim_board.specs.Boards.{moves as moves_of, worker_count, identity, ArePasses, AllBare};
 
 use crate::board::Board;
 use crate::pass::Pass;
-use crate::rule::Deal;
-use crate::rule::key::Key;
-use crate::rule::steps::{Place, Words};
+use crate::rule::foreseen::foresee;
+use crate::rule::table_key::TableKey;
+use crate::rule::{Deal, Held, Place, Words};
 use atomic_table::Table;
 use scheduler::{GivenMoves, Moves, count_readers, count_sources, how_counts_go_down};
 use std::alloc::{AllocError, Global};
+use std::marker::Brand;
+use std::snapshot::Snapshot;
 
 /// The first value of the word of a region with this number of readers.
 fn opening_word(readers: usize, fill: bool) -> u64
@@ -28,7 +31,7 @@ fn opening_word(readers: usize, fill: bool) -> u64
 }
 
 /// The first values of the words: one for each region, and then the number of regions to be filled.
-fn opening_words(alloc: Global, moves: &GivenMoves) -> Result<Vec<u64>, AllocError>
+pub(crate) fn opening_words(alloc: Global, moves: &GivenMoves) -> Result<Vec<u64>, AllocError>
     ensures lawful { IfOk result (λ _. IsMoveTable moves.now) }
     ensures size { IfOk result (λ v. vec_len v ≡ suc (region_count moves.now)) }
     ensures words { IfOk result (λ v. (r : ℕ) → r < region_count moves.now → slice_index v.items r ≡ word_of moves.now opening r) }
@@ -45,23 +48,25 @@ fn opening_words(alloc: Global, moves: &GivenMoves) -> Result<Vec<u64>, AllocErr
     Ok(words)
 }
 
-/// Makes a pass for each worker.
-fn deal(
-    alloc: Global,
+/// Makes a pass for each worker, in an empty list with room for them.
+pub(crate) fn deal(
     words: &Words,
     mut place: Place,
     workers: u32,
-) -> Result<Vec<Pass>, AllocError>
+    mut passes: Vec<Pass>,
+) -> Vec<Pass>
     requires place { (place.table_id ≡ words.now.table_id) × (0 < words.now.table_id.words) × (0 < workers) × (place.me ≡ (record { note = []; holds = fresh 0 workers }, [])) }
-    ensures { IfOk result (λ v. (vec_len v ≡ workers) × ArePasses words.now.table_id v.items) }
+    requires empty { passes.items ≡ [] }
+    requires room { workers ≤ vec_capacity passes }
+    ensures passes { (vec_len result ≡ workers) × ArePasses words.now.table_id result.items }
+    ensures bare { AllBare result.items }
 {
-    let mut passes = Vec::with_capacity(alloc, workers as usize)?;
     for _ in 1..workers {
         let one = words.split_seat::<Deal>(&mut place);
-        passes.push(Pass { place: one })?;
+        passes.push_reserved(Pass { place: one });
     }
-    passes.push(Pass { place })?;
-    Ok(passes)
+    passes.push_reserved(Pass { place });
+    passes
 }
 
 impl Board {
@@ -80,10 +85,17 @@ impl Board {
         let moves = GivenMoves::copy_of(alloc, moves)?;
         let sources = count_sources(alloc, &moves)?;
         let words = opening_words(alloc, &moves)?;
-        let key = Key { moves, workers };
+        let passes = Vec::with_capacity(alloc, workers as usize)?;
+        let nothing: Vec<Option<Held>> = Vec::new(alloc);
+        let key = TableKey {
+            moves,
+            workers,
+            values: Snapshot::of(&nothing),
+            moved: foresee::<Held, Brand>(),
+        };
         let (table, place) = Table::of_words(alloc, words.as_slice(), &key)?;
-        let passes = deal(alloc, &table.shared, place, workers)?;
-        let Key { moves, workers: _ } = key;
+        let passes = deal(&table.shared, place, workers, passes);
+        let TableKey { moves, .. } = key;
         let board = Board {
             table,
             moves,

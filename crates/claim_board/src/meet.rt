@@ -11,12 +11,11 @@ ghost use mathlib.Core.Option.{none};
 
 use crate::board::Board;
 use crate::pass::Pass;
-use crate::rule::steps::{Place, Words};
-use crate::rule::{About, Note, Sees, Takes};
+use crate::rule::{About, Held, Note, Place, Sees, Takes, Words};
 use std::marker::Brand;
 
 /// Makes the seat see the whole history.
-fn see<E: About>(words: &Words, seat: &mut Place)
+fn see<E: About<Held>>(words: &Words, seat: &mut Place)
     requires seat { seat.old.table_id ≡ words.now.table_id }
     requires size { words.now.table_id.words ≡ suc (region_count words.now.key.moves) }
     requires about { (E.moves ≡ words.now.key.moves) × (E.workers ≡ words.now.key.workers) }

@@ -1,7 +1,7 @@
 ghost use Rattle.std.specs.Prelude.{◌≡◌, []};
 ghost use Rattle.claim_board.specs.Views.{IsPassView};
 
-use crate::rule::steps::Place;
+use crate::rule::Place;
 
 /// One worker's access to a board. Contracts see two lists of calls: `seen`, a legal history known to
 /// this pass, and `mine`, its own calls in it. The value takes no memory.
@@ -9,5 +9,5 @@ use crate::rule::steps::Place;
 pub struct Pass {
     pub(crate) place: Place,
     ghost single: { IsPassView place.me.0 },
-    ghost bare: { place.me.1 ≡ [] },
+    ghost bare: { place.table_id.slots ≡ 0 → place.me.1 ≡ [] },
 }

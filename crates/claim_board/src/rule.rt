@@ -1,28 +1,41 @@
-//! The rule of the board's table, and what each kind of step adds to a history or shows of it.
+//! The rule of the board's table, and what each kind of step adds to a history or shows of it. It is generic in what a slot
+//! holds, `X`. A table may have no slots.
 
+pub(crate) mod foreseen;
 pub(crate) mod key;
 pub(crate) mod steps;
+pub(crate) mod table_key;
 pub(crate) mod view;
 
+use crate::regions::holding::Holding;
 use atomic_table::{Join, Play, Split, TableRule};
-use key::Key;
 use std::marker::{Brand, PhantomData};
+use table_key::TableKey;
 use view::View;
 
-/// The words have the values that one legal history determines.
+/// What a slot of a board holds.
+pub(crate) type Held = Holding;
+
+/// The words and slots of a board, as threads share them.
+pub(crate) type Words = steps::Words<Held>;
+
+/// A seat of a board.
+pub(crate) type Place = steps::Place<Held>;
+
+/// The words have the values that one legal history determines, and the slots what it says of the regions.
 pub struct Law;
 
-impl TableRule<u8, View, Key> for Law {
-    ghost use Rattle.claim_board.specs.Rule.{kept, all_workers};
+impl<X> TableRule<Option<X>, View, TableKey<X>> for Law {
+    ghost use Rattle.claim_board.specs.Slots.{kept, all_workers};
 
     ghost holds = { kept };
 
     ghost first = { all_workers };
 }
 
-/// The entry that a step adds.
-pub trait About {
-    ghost use Rattle.std.specs.Prelude.{ℕ};
+/// The entry that a step adds, and the slots of the table that it may move.
+pub trait About<X> {
+    ghost use Rattle.std.specs.Prelude.{ℕ, Option};
     ghost use Rattle.scheduler.specs.MoveTable.{MoveTable};
     ghost use Rattle.scheduler.specs.declared.event.Event.{Event};
     ghost use Rattle.scheduler.specs.declared.reply.Reply.{Reply};
@@ -35,10 +48,16 @@ pub trait About {
 
     /// The reply, from the value that the step finds.
     ghost reply: { ℕ → Reply };
+
+    /// The number of slots.
+    ghost slots: { ℕ };
+
+    /// The first value of each slot.
+    ghost first: { ℕ → Option X };
 }
 
-impl About for Brand {
-    ghost use Rattle.std.specs.Prelude.{[]};
+impl About<Held> for Brand {
+    ghost use Rattle.std.specs.Prelude.{[], None};
     ghost use Rattle.scheduler.specs.declared.event.Event.TheVariants.{Poll};
     ghost use Rattle.scheduler.specs.declared.reply.Reply.TheVariants.{More};
 
@@ -49,17 +68,21 @@ impl About for Brand {
     ghost event = { Poll };
 
     ghost reply = { λ _. More };
+
+    ghost slots = { 0 };
+
+    ghost first = { λ _. None };
 }
 
-/// The step adds one entry.
+/// The step adds one entry, and moves what the entry says.
 pub struct Adds<E> {
     about: PhantomData<E>,
 }
 
-impl<E: About> Play<u8, View> for Adds<E> {
-    ghost use Rattle.claim_board.specs.Rule.{added};
+impl<X, E: About<X>> Play<Option<X>, View> for Adds<E> {
+    ghost use Rattle.claim_board.specs.Slots.{moved_and_added};
 
-    ghost then = { added E.moves E.workers E.event E.reply };
+    ghost then = { moved_and_added E.moves E.slots E.first E.workers E.event E.reply };
 }
 
 /// The first of the seat's workers gets its own seat.
@@ -108,7 +131,7 @@ pub struct Sees<E> {
     about: PhantomData<E>,
 }
 
-impl<E: About> Play<u8, View> for Sees<E> {
+impl<X, E: About<X>> Play<Option<X>, View> for Sees<E> {
     ghost use Rattle.claim_board.specs.Rule.{sees};
 
     ghost then = { sees E.moves E.workers };
@@ -117,7 +140,7 @@ impl<E: About> Play<u8, View> for Sees<E> {
 /// The seat sees the history that was passed to it.
 pub struct Takes;
 
-impl Play<u8, View> for Takes {
+impl<X> Play<Option<X>, View> for Takes {
     ghost use Rattle.claim_board.specs.Rule.{takes_note};
 
     ghost then = { takes_note };
@@ -128,7 +151,7 @@ pub struct Surveys<E> {
     about: PhantomData<E>,
 }
 
-impl<E: About> Play<u8, View> for Surveys<E> {
+impl<X, E: About<X>> Play<Option<X>, View> for Surveys<E> {
     ghost use Rattle.claim_board.specs.Rule.{surveys};
 
     ghost then = { surveys E.moves E.workers };

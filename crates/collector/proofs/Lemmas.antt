@@ -7,3 +7,8 @@ pub mod Losses
 pub mod Upgrades
 pub mod Ends
 pub mod Crossing
+pub mod Rest
+pub mod Finishing
+pub mod Meeting
+pub mod Behind
+pub mod Stopping

@@ -5,8 +5,8 @@ use Rattle.image_streams.specs.declared.fault.Fault.{Fault}
 use Rattle.image_streams.specs.declared.fault.Fault.TheVariants.{Gate}
 use Rattle.summary.specs.RegionData.{fill_count}
 use Rattle.fill.specs.FillFaults.{IsFaultOf}
-use Rattle.collector.specs.declared.workers.worker.Halt.{Halt}
-use Rattle.collector.specs.declared.workers.worker.Halt.TheVariants.{Stopped, Failed}
+use Rattle.collector.specs.declared.workers.end.End.{End}
+use Rattle.collector.specs.declared.workers.end.End.TheVariants.{Stopped, Failed}
 
 -- one of the first `regions` regions may be refused
 abbrev pub MayBeRefused : (ℕ → Type 0) → ℕ → Type 0
@@ -16,16 +16,19 @@ MayBeRefused may_refuse regions = (r : ℕ) × (r < regions) × may_refuse r
 abbrev pub MayRefuse : (ℕ → ℕ → Type 0) → ℕ → HeapImage → Type 0
 MayRefuse may_refuse workers image = MayBeRefused (λ r. MayBeRefused (λ n. may_refuse n r) workers) (fill_count image)
 
--- A worker is stopped by another's fault, or meets one itself: that of a fill, or the gate's, which may refuse it one
--- of the first `regions` regions.
-abbrev pub MayHalt : (Fault → Type 0) → (ℕ → Type 0) → ℕ → Halt → Type 0
-MayHalt may_fail may_refuse regions Stopped = Unit {0}
-MayHalt may_fail may_refuse regions (Failed fault) = IsFaultOf may_fail fault ⊎ ((fault ≡ Gate) × MayBeRefused may_refuse regions)
+-- A worker meets a fault: that of a fill, or the gate's, which may refuse it one of the first `regions` regions.
+abbrev pub MayFail : (Fault → Type 0) → (ℕ → Type 0) → ℕ → Fault → Type 0
+MayFail may_fail may_refuse regions fault = IsFaultOf may_fail fault ⊎ ((fault ≡ Gate) × MayBeRefused may_refuse regions)
+
+-- a worker is stopped by another's fault, or meets one itself
+abbrev pub MayEndEarly : (Fault → Type 0) → (ℕ → Type 0) → ℕ → End → Type 0
+MayEndEarly may_fail may_refuse regions (Stopped held) = Unit {0}
+MayEndEarly may_fail may_refuse regions (Failed fault) = MayFail may_fail may_refuse regions fault
 
 -- the fault that a worker with this end has met itself
-unfoldable pub met_fault : Result Unit Halt → Option Fault
+unfoldable pub met_fault : Result Unit End → Option Fault
 met_fault (Ok _) = None
-met_fault (Err Stopped) = None
+met_fault (Err (Stopped held)) = None
 met_fault (Err (Failed fault)) = Some fault
 
 -- a collection of the image by `workers` workers may meet the fault: that of a fill, or the gate's, which may refuse

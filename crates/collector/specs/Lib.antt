@@ -2,5 +2,6 @@ pub mod Halts
 pub mod Collections
 pub mod Streams
 pub mod Records
+pub mod Rest
 pub mod Ends
 pub mod Sessions

@@ -16,14 +16,13 @@ ghost use Rattle.collector.specs.Streams.{IsTextBegun, IsFirstOfBytes, MayRefuse
 ghost use Rattle.collector.specs.declared.outcome.Refusal.TheVariants.{Kept, Lost};
 
 pub(crate) mod clean_up;
-mod collection_desk;
+pub(crate) mod collection_desk;
 pub(crate) mod compaction;
 pub(crate) mod recording;
 pub(crate) mod redirector;
 
 use crate::gate::Gate;
 use crate::outcome::{Figures, Outcome, Refusal};
-use crate::workers::start_line::StartLine;
 use claim_board::{Board, Finished};
 use compaction::{Compaction, finish_collection};
 use heap_image::{Fault, Image, Intake, Outlet, read_image, write_image_buffered};
@@ -101,10 +100,11 @@ fn read_whole<R: Intake>(
 ///
 /// Returns `Kept` before any worker begins: with fault 12 exactly if the number of workers, which is tested first,
 /// isn't 1 to 64, and with fault 11 if memory runs out. Returns `Lost` afterwards: with fault 16 if the gate refused a
-/// region, and with fault 15 if a cell or a queue contradicts the order of work. If several workers meet a fault, the
-/// lowest worker's is returned.
+/// region, and with fault 15 if a cell contradicts the order of work. If several workers meet a fault, the lowest worker's is
+/// returned. What the workers leave without a fault is filled in the caller's thread.
 ///
-/// Nothing but the threads allocates once the workers begin. One worker alone never waits.
+/// Nothing but the threads allocates once the workers begin. One worker alone never waits, and fills the regions in
+/// ascending order.
 pub fn collect<G: Gate + Sync, T: Threads + Sync, W: Wait + Sync>(
     alloc: Global,
     image: Image,
@@ -128,16 +128,17 @@ pub fn collect<G: Gate + Sync, T: Threads + Sync, W: Wait + Sync>(
         most: workers as usize,
     };
     let mut compaction = Compaction::<Board>::prepare(alloc, image, workers, &many)?;
-    compaction.work(&StartLine::open(), gate, threads, wait)?;
+    compaction.work_if_several(gate, threads, wait)?;
+    compaction.fill_left(gate, wait)?;
     Ok(finish_collection(compaction, &many)?)
 }
 
 /// Compacts an image in the caller's thread. Starts no thread, and never waits.
 ///
 /// Returns `Kept` with fault 11 if memory runs out, before any region is filled. Returns `Lost` afterwards: with fault
-/// 16 if the gate refused a region, and with fault 15 if a cell or a queue contradicts the order of work.
+/// 16 if the gate refused a region, and with fault 15 if a cell contradicts the order of work.
 ///
-/// Nothing is allocated once regions are filled.
+/// The regions are filled in ascending order, without a queue or a flag. Nothing is allocated once regions are filled.
 pub fn collect_alone<G: Gate>(
     alloc: Global,
     image: Image,
@@ -152,6 +153,6 @@ pub fn collect_alone<G: Gate>(
     ensures gate { result ≡ Err (Lost Fault.Gate) → MayRefuse (G.may_refuse gate.now) 1 image }
 {
     let mut compaction = Compaction::<Board>::prepare(alloc, image, 1, &Alone)?;
-    compaction.work_alone(gate, &Tries { most: 0 })?;
+    compaction.fill_left(gate, &Tries { most: 0 })?;
     Ok(finish_collection(compaction, &Alone)?)
 }

@@ -23,11 +23,12 @@
 //! the word machine allows and that settles all regions to fill; `record_stream` writes the texts of both, and nothing
 //! before `record` has succeeded.
 //!
-//! A gate refuses only where it states that it may.
+//! A gate refuses only where it states that it may. Unless it refuses, or a cell contradicts the order of work, `collect` and
+//! `collect_alone` end well: what the workers leave, for whatever reason, the caller's thread fills.
 //!
 //! # What is only tested, or not stated
 //!
-//! That a collection ends, that several threads run, and that fault 15 does not come: tests with gates cover this. That
+//! That several threads run, and that no cell contradicts, which is fault 15: tests with gates cover this. That
 //! the fault returned is the lowest worker's: this is proved of the function that picks it, and stated by no public
 //! contract. That the schedule of `record` is what its own workers did: tests force orders by a gate. That the workers
 //! of `record` begin together: a test counts those that have a share of a small heap. No contract says how long a call
@@ -48,6 +49,7 @@ pub use laws::an_upgrade_is_collected_alike;
 pub use outcome::{Figures, Outcome, Refusal};
 pub use ready_queues::{Ready, Thief};
 pub use session::Session;
+pub use session::halt::Halt;
 pub use session::progress::Progress;
 pub use session::share::Share;
 pub use verification::{
@@ -55,4 +57,3 @@ pub use verification::{
     Verdict, Verifier, explain, verify, verify_below_top,
 };
 pub use workers::Workers;
-pub use workers::worker::Halt;

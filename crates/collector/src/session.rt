@@ -6,21 +6,24 @@ ghost use Rattle.claim_board.specs.Boards.{identity, board_of};
 ghost use Rattle.fill.specs.FillFaults.{IsOverwritten};
 ghost use Rattle.collector.specs.Collections.{figures_of, AreNoneOrTooMany, IfKept, IfLost};
 ghost use Rattle.collector.specs.declared.outcome.Refusal.TheVariants.{Kept};
-ghost use Rattle.collector.specs.Ends.{MayEnd};
+ghost use Rattle.collector.specs.Ends.{MayEnd, MayHalt};
 
 mod dealing;
+pub(crate) mod halt;
 pub(crate) mod progress;
 pub(crate) mod share;
 
 use crate::collection::compaction::Compaction;
 use crate::gate::OpenGate;
 use crate::outcome::{Outcome, Refusal};
+use crate::workers::end::End;
 use crate::workers::fill_task::FillTask;
 use crate::workers::shared::Shared;
-use crate::workers::worker::{Halt, Worker};
+use crate::workers::worker::Worker;
 use claim_board::{Board, Pass};
 use crossbeam_utils::Backoff;
 use dealing::shares_of;
+use halt::Halt;
 use heap_image::{Fault, Image, Version};
 use progress::Progress;
 use retry_policy::Tries;
@@ -79,22 +82,55 @@ impl Session {
         requires seat { board_of worker.old.seat ≡ identity self.now.shared.desk }
         ensures seat { board_of worker.new.seat ≡ identity self.now.shared.desk }
         ensures end { IfErr worker.new.result MayEnd }
-        ensures halt { IfErr result MayEnd }
+        ensures halt { IfErr result MayHalt }
     {
         let task = FillTask {
             shared: &self.shared,
             gate: &OpenGate,
             wait: &Tries { most: u64::MAX },
         };
-        let filled = task.fill_ready(number, worker, turns, &Backoff::new());
-        worker.result = match filled {
-            Ok(_) => Ok(()),
-            Err(halt) => Err(halt),
-        };
-        if let Err(Halt::Failed(_)) = filled {
-            self.shared.stop.store(true, Ordering::SeqCst);
+        match task.fill_ready(number, worker, turns, &Backoff::new()) {
+            Ok(progress) => {
+                worker.result = Ok(());
+                Ok(progress)
+            }
+            Err(end) => Err(self.halt(worker, end)),
         }
-        filled
+    }
+
+    /// Keeps why a worker has ended. A fault of its own stops the others.
+    fn halt(&self, worker: &mut Worker<Pass>, end: End) -> Halt
+        requires { MayEnd end }
+        ensures seat { worker.new.seat ≡ worker.old.seat }
+        ensures end { IfErr worker.new.result MayEnd }
+        ensures halt { MayHalt result }
+    {
+        let halt = match end {
+            End::Failed(fault) => {
+                self.shared.stop.store(true, Ordering::SeqCst);
+                Halt::Failed(fault)
+            }
+            End::Stopped(_) => Halt::Stopped,
+        };
+        worker.result = Err(end);
+        halt
+    }
+
+    /// Lets a worker fill what is left, once no other works. Returns fault 15 if a cell contradicts the order of work.
+    fn fill_rest(&self, number: u32, pass: &mut Pass) -> Result<(), Fault>
+        requires { board_of pass.old ≡ identity self.now.shared.desk }
+        ensures seat { board_of pass.new ≡ identity self.now.shared.desk }
+        ensures fault { IfErr result IsOverwritten }
+    {
+        let task = FillTask {
+            shared: &self.shared,
+            gate: &OpenGate,
+            wait: &Tries { most: u64::MAX },
+        };
+        if self.shared.desk.poll(pass) {
+            return Ok(());
+        }
+        task.fill_rest(number, pass)
     }
 
     /// Cleans up once no worker is left. Returns fault 15 if a region has not moved.

@@ -128,6 +128,18 @@ pub(crate) fn five_regions(words: &mut [u64; 40]) -> Heap<'_> {
     }
 }
 
+/// Four regions, of which the third has no live words, so that nothing reads it. Regions 0 to 2 are to be filled.
+pub(crate) fn dead_between(words: &mut [u64; 32]) -> Heap<'_> {
+    for (a, size) in [(0, 4), (8, 8), (24, 8)] {
+        words[a] = plain(size);
+    }
+    Heap {
+        words: words.as_slice(),
+        live: &[0, 8, 24],
+        allowance: 0,
+    }
+}
+
 /// Whether a replay of the schedule over the heap ends with its compaction.
 pub(crate) fn replays(
     alloc: Global,

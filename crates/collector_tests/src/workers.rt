@@ -2,7 +2,7 @@
 use crate::checks::{equal, holds};
 use crate::gates::Call::Before;
 use crate::gates::{Awaits, FirstHeld, TURNS, linger, reaches};
-use crate::heaps::{base, compacted_text, figures, five_regions, four_regions};
+use crate::heaps::{base, compacted_text, dead_between, figures, five_regions, four_regions};
 use collector::{Figures, Gate, collect_stream};
 use heap_image::{Fault, FromRead, ToWrite};
 use heap_samples::Base;
@@ -214,5 +214,33 @@ fn a_worker_with_nothing_to_take_waits_for_what_becomes_ready(rt: HostRuntime) -
     let found = five_regions(&mut [0; 40]).collected(rt.alloc(), 2, &gate, &rt)?;
     equal(&rt, found, figures(0, 24, 3));
     holds(&rt, gate.0.is_kept());
+    Ok(())
+}
+
+/// Notes the fills, and holds none.
+#[derive(Drop)]
+struct NotesTheOrder {
+    fills: Fills,
+}
+
+impl Gate for NotesTheOrder {
+    ghost may_refuse = { λ _ _ _. ⊥ };
+
+    fn before_fill(&self, worker: u32, region: u32) -> bool {
+        self.fills.note(worker, region);
+        true
+    }
+
+    fn after_complete(&self, _worker: u32, _region: u32) {}
+}
+
+/// A lone worker that takes the regions from a queue meets the contract, and fails here: 0 and 2 are ready at first.
+#[test]
+fn a_lone_worker_fills_in_ascending_order(rt: HostRuntime) -> Result<(), Fail> {
+    let gate = NotesTheOrder {
+        fills: Fills::none(),
+    };
+    dead_between(&mut [0; 32]).collected(rt.alloc(), 1, &gate, &rt)?;
+    equal(&rt, numbers(&gate.fills.regions), [0, 1, 2, NONE]);
     Ok(())
 }

@@ -1,4 +1,4 @@
-//! Tests of the public calls of `raw_region`, `thread_row`, `heap_image` and `mark_bitmap`.
+//! Tests of the public calls of `raw_region`, `thread_row`, `read_shares`, `heap_image` and `mark_bitmap`.
 //!
 //! They are in a crate of their own so that checking them doesn't prove those crates again.
 #![tactic(auto)]
@@ -17,3 +17,5 @@ mod marks;
 mod regions;
 #[cfg(test)]
 mod rows;
+#[cfg(test)]
+mod shares;

@@ -19,8 +19,8 @@ use std::alloc::Global;
 /// Compacts the heap with these words and live addresses in place. Returns the number of the fault in `answer`. After a
 /// fault the words and live addresses are as they were.
 ///
-/// The fault is the first fault of the bytes of its image, 3, 4 or 6 to 9, or 11 if memory runs out, or 15 if a cell or a
-/// queue contradicts the order of work. Takes the memory of a copy of the words, and what a collection by one worker takes.
+/// The fault is the first fault of the bytes of its image, 3, 4 or 6 to 9, or 11 if memory runs out, or 15 if a cell
+/// contradicts the order of work. Takes the memory of a copy of the words, and what a collection by one worker takes.
 #[unsafe(no_mangle)]
 pub extern "C" fn pcompact_collect(
     alloc: Global,

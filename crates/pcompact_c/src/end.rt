@@ -28,7 +28,7 @@ use std::alloc::Global;
 ///
 /// The fault is 12 if these aren't the handles of such a begin: then they are as they were, and their collections go on.
 /// Otherwise none is held afterwards. It is 4 if the words or the list are not as many as there, 11 if memory runs out, or 15
-/// if a cell or a queue contradicts the order of work.
+/// if a cell contradicts the order of work.
 #[unsafe(no_mangle)]
 pub extern "C" fn pcompact_end(
     alloc: Global,
@@ -56,7 +56,7 @@ pub extern "C" fn pcompact_end(
 ///
 /// The fault is 12 if these aren't the handles of one begin with this place, 4 if the words or the list are not as many as
 /// there or some words are held, or 11 if memory runs out: then handles, words and list are as they were, and the
-/// collection goes on. It is 15 if a cell or a queue contradicts the order of work or the words were not lent: then the
+/// collection goes on. It is 15 if a cell contradicts the order of work or the words were not lent: then the
 /// collection is over, and nothing is promised of words and list. After 0 and 15 no handle is held.
 #[unsafe(no_mangle)]
 pub extern "C" fn pcompact_end_lent_at(
@@ -153,7 +153,7 @@ fn with_share(
 }
 
 /// Ends the session of these shares, and returns what it made of the last one's image. Fails with fault 15 if they aren't all
-/// of one session, or a cell or a queue contradicts the order of work.
+/// of one session, or a cell contradicts the order of work.
 fn outcome_of(mut shares: Vec<Share>) -> Result<Outcome, Fault>
     ensures outcome { IfOk result (λ outcome. (others : List Share) × (last : Share) × (shares.items ≡ others ++ last ∷ [])
         × (outcome.image ≡ compact (image_of last)) × (outcome.figures ≡ figures_of (image_of last))) }

@@ -1,11 +1,8 @@
--- Each kind of step keeps the rule, and adds its entry.
-use Rattle.std.proofs.Common.{◌≡◌, ◌≢◌, ◌⊎◌, ℕ, zero, suc, ◌+◌, ◌-◌, ◌%◌, ◌^◌, ◌<◌, ◌≤◌, Bool, true, false, cond, ◌&&◌, ◌==◌, nat_lt, bit_or, List, [], ◌∷◌, ◌++◌, length, set, slice_index, get_or, Option, Some, None, is_some, refl, sym, ap, ◌∙◌, subst, inl, inr, ⊎_elim, ne_eqb, length-set, arith}
+-- What each kind of step does to its word.
+use Rattle.std.proofs.Common.{◌≡◌, ◌≢◌, ◌⊎◌, ℕ, ◌+◌, ◌-◌, ◌%◌, ◌^◌, ◌<◌, ◌≤◌, Bool, true, false, cond, ◌&&◌, ◌==◌, nat_lt, bit_or, List, Option, Some, None, is_some, refl, sym, ap, ◌∙◌, subst, inl, inr, ne_eqb, arith}
 use Rattle.std.specs.Prelude.{IsTrue, not}
 use Rattle.std.proofs.lemmas.Bool.{cases_eq}
-use mathlib.Core.Option.{some}
-use lib.ListN.{get_elem?}
 use prog.Atomic.{either}
-use Rattle.atomic_table.specs.Table.{Me, Step, keeps, Allows}
 use Rattle.scheduler.specs.declared.event.Event.{Event}
 use Rattle.scheduler.specs.declared.event.Event.TheVariants.{Claim, Look, Drain, Complete, Settle, Poll}
 use Rattle.scheduler.specs.declared.reply.Reply.{Reply}
@@ -13,16 +10,10 @@ use Rattle.scheduler.specs.declared.reply.Reply.TheVariants.{Yes, No, Open, Outs
 use Rattle.scheduler.specs.declared.entry.Entry.{Entry}
 use Rattle.scheduler.specs.MoveTable.{MoveTable, IsMoveTable, region_count, to_fill, reads}
 use Rattle.scheduler.specs.State.{State, state_after, IsStep, unsettled, readers_left, may_claim, is_pending, IsFilling}
-use Rattle.scheduler.specs.History.{entry, state_of, IsLegal, calls_by, TellsOwn, AgreeOn}
-use Rattle.claim_board.specs.declared.rule.key.Key.{Key}
-use Rattle.claim_board.specs.declared.rule.view.View.{View}
-use Rattle.claim_board.specs.declared.rule.view.Touch.{Touch}
-use Rattle.claim_board.specs.Views.{pass_view, IsPassView, worker_of, seen_of, mine_of, steps_of}
-use Rattle.claim_board.specs.Steps.{touch_of}
-use Rattle.claim_board.specs.Rule.{kept, Kept, Extends, added, word_of, claim_reply, drain_reply, complete_reply, settle_reply, poll_reply, look_reply}
+use Rattle.scheduler.specs.History.{state_of, IsLegal, calls_by, TellsOwn, AgreeOn}
+use Rattle.claim_board.specs.Rule.{word_of, claim_reply, drain_reply, complete_reply, settle_reply, poll_reply, look_reply}
 use Rattle.claim_board.proofs.Lemmas.Premises.{Reached, Own, Counts}
-use Rattle.claim_board.proofs.Lemmas.Words.{words_at, at_word, at_region, at_rest, free_word, claim_others, claim_here, drain_others, drain_last, drain_here, complete_others, complete_here, settle_others, settle_here, one_left}
-use Rattle.claim_board.proofs.Lemmas.Appends.{appends}
+use Rattle.claim_board.proofs.Lemmas.Words.{at_word, at_region, at_rest, free_word, claim_others, claim_here, drain_others, drain_last, drain_here, complete_others, complete_here, settle_others, settle_here, one_left}
 
 -- What a step must show, for any legal history with exactly these own calls of the worker, whatever the word is
 abbrev pub Effect : MoveTable → ℕ → ℕ → List Entry → Event → (ℕ → Reply) → (ℕ → ℕ) → ℕ → Type 0
@@ -31,77 +22,6 @@ Effect m n w mine event reply f i =
     → IsStep m (state_of log) w event (reply found) (state_after (state_of log) w event (reply found))
     × ((q : ℕ) → q ≢ i → at_word m (state_of log) q ≡ at_word m (state_after (state_of log) w event (reply found)) q)
     × (f found ≡ at_word m (state_after (state_of log) w event (reply found)) i)
-
-pub allowed : (k : Key) (slots id i : ℕ) (me : Me ℕ View) (event : Event) (reply : ℕ → Reply) (f : ℕ → ℕ) (s0 : Step ℕ) → i < suc (region_count k.moves) → IsPassView me.0
-    → Effect k.moves k.workers (worker_of me.0) (mine_of me.0) event reply f i
-    → Allows (kept k) slots id me i f (added k.moves k.workers event reply s0 me)
-allowed k slots id i me event reply f s0 below is effect s h homes at small = (
-  pass_view w (h.log ++ e ∷ []) (mine ++ e ∷ []) (taken ++ t ∷ []),
-  keeps,
-  tt,
-  done.0,
-  (refl, refl, refl, done.1, refl),
-)
-  where
-    m : MoveTable
-    m = k.moves
-
-    w : ℕ
-    w = worker_of me.0
-
-    mine : List Entry
-    mine = mine_of me.0
-
-    taken : List Touch
-    taken = steps_of me.0
-
-    t : Touch
-    t = touch_of s0
-
-    found : ℕ
-    found = slice_index s.words i
-
-    st : State
-    st = state_of h.log
-
-    e : Entry
-    e = entry w event (reply found)
-
-    st' : State
-    st' = state_after st w event (reply found)
-
-    here : get_elem? s.views id ≡ some (pass_view w (seen_of me.0) mine taken)
-    here = at ∙ ap some is
-
-    calls : calls_by w h.log ≡ mine
-    calls = (h.each_view id (pass_view w (seen_of me.0) mine taken) here).1.0.calls
-
-    all_words : (q : ℕ) → q < suc (region_count m) → get_or s.words q 0 ≡ at_word m st q
-    all_words q low = ⊎_elim
-        (λ (t : q < region_count m). h.each_word q t ∙ sym (at_region m st q t))
-        (λ (t : q ≡ region_count m). subst (λ (x : ℕ). get_or s.words x 0 ≡ at_word m st x) (sym t) (h.remaining ∙ sym (at_rest m st)))
-        (split q (region_count m) low)
-      where
-        split : (q b : ℕ) → q < suc b → (q < b) ⊎ (q ≡ b)
-        split zero zero low = inr refl
-        split zero (suc b) low = inl (omega arith)
-        split (suc q) zero low = absurd (omega arith)
-        split (suc q) (suc b) low = ⊎_elim (λ (t : q < b). inl (omega arith)) (λ (t : q ≡ b). inr (ap suc t)) (split q b (omega arith))
-
-    shown : IsStep m st w event (reply found) st' × ((q : ℕ) → q ≢ i → at_word m st q ≡ at_word m st' q) × (f found ≡ at_word m st' i)
-    shown = effect h.log h.legal h.table calls found small (all_words i below)
-
-    inside : i < length s.words
-    inside = let z = h.size in omega arith
-
-    words' : (q : ℕ) → q < suc (region_count m) → get_or (set s.words i (f found)) q 0 ≡ at_word m st' q
-    words' = words_at s.words i (f found) (suc (region_count m)) (at_word m st) (at_word m st') inside shown.1 shown.2 all_words
-
-    done : Kept m k.workers (set s.words i (f found)) (set s.views id (pass_view w (h.log ++ e ∷ []) (mine ++ e ∷ []) (taken ++ t ∷ []))) × Extends m k.workers w (seen_of me.0) mine event (reply found) (h.log ++ e ∷ []) (mine ++ e ∷ [])
-    done = appends m k.workers s.words s.views h id w (seen_of me.0) mine taken t here event (reply found) shown.0
-        (set s.words i (f found)) (length-set s.words i (f found))
-        (λ r low. words' r (omega arith) ∙ at_region m st' r low)
-        (words' (region_count m) (omega arith) ∙ at_rest m st')
 
 -- what the worker's own calls say, in any history with exactly these
 pub own_of : Own → (m : MoveTable) (n w : ℕ) (mine log : List Entry) → IsLegal m n log → calls_by w log ≡ mine → TellsOwn w (state_of mine) (state_of log)

@@ -7,7 +7,7 @@ use Rattle.claim_board.specs.declared.pass.Pass.{Pass}
 use Rattle.claim_board.specs.declared.rule.view.Hold.{Hold}
 use Rattle.claim_board.specs.declared.rule.view.View.{View}
 use Rattle.claim_board.specs.Views.{AllFit, IsPassView, worker_of, seen_of, mine_of}
-use Rattle.claim_board.specs.Boards.{board_of, AllOf, AllStand}
+use Rattle.claim_board.specs.Boards.{board_of, held, AllOf, AllBare, AllStand, Covers}
 
 pub all_of_front : (z : TableId) (ps : List Pass) (p : Pass) → AllOf z (ps ++ p ∷ []) → AllOf z ps × (board_of p ≡ z)
 all_of_front z [] p all = (tt, all.0)
@@ -20,9 +20,14 @@ fit_parts n log (x ∷ xs) ys fits = let r = fit_parts n log xs ys fits.1 in ((f
 stands : (n : ℕ) (log : List Entry) (v : View) → IsPassView v → AllFit n log v.holds → BeginsWith log (seen_of v) × (calls_by (worker_of v) log ≡ mine_of v)
 stands n log v is fits = let f = subst (λ (u : View). AllFit n log u.holds) is fits in (f.0.begins, f.0.calls)
 
--- what the seat's workers say about the gathered passes
-abbrev pub Covers : ℕ → List Hold → List Pass → Type 0
-Covers n hs ps = (log : List Entry) → AllFit n log hs → AllStand log ps
+pub bare_front : (ps : List Pass) (p : Pass) → AllBare (ps ++ p ∷ []) → AllBare ps × (held p ≡ [])
+bare_front [] p all = (tt, all.0)
+bare_front (q ∷ qs) p all = let r = bare_front qs p all.1 in ((all.0, r.0), r.1)
+
+-- the passes of a board without slots hold none
+pub all_bare : (z : TableId) (ps : List Pass) → AllOf z ps → z.slots ≡ 0 → AllBare ps
+all_bare z [] all none = tt
+all_bare z (p ∷ ps) all none = (p.bare (ap (λ y. y.slots) all.0 ∙ none), all_bare z ps all.1 none)
 
 pub covers_one : (n : ℕ) (p : Pass) → IsPassView p.place.me.0 → Covers n p.place.me.0.holds (p ∷ [])
 covers_one n p is log fits = (stands n log p.place.me.0 is fits, tt)

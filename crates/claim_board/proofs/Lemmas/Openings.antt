@@ -1,7 +1,7 @@
--- The board at the opening.
-use Rattle.std.proofs.Common.{◌≡◌, ◌≢◌, ℕ, zero, suc, ◌+◌, ◌<◌, ◌≤◌, Bool, true, false, cond, ◌&&◌, ◌==◌, nat_lt, List, [], ◌∷◌, ◌++◌, length, set, slice_index, get_or, refl, sym, ap, ◌∙◌, subst, ⊎_elim, ne_eqb, arith}
+-- The board at the opening, and a seat that is cut.
+use Rattle.std.proofs.Common.{◌≡◌, ◌≢◌, ℕ, zero, suc, ◌+◌, ◌<◌, ◌≤◌, Bool, true, false, cond, ◌&&◌, ◌==◌, nat_lt, List, [], ◌∷◌, ◌++◌, length, map, set, slice_index, get_or, refl, sym, ap, ◌∙◌, subst, ⊎_elim, ne_eqb, arith}
 use Rattle.std.proofs.Math.Path.{fun_ext}
-use Rattle.std.specs.Prelude.{count_by}
+use Rattle.std.specs.Prelude.{count_by, if◌then◌else◌, Option, None}
 use mathlib.Core.Option.{some, some-ne-none, some-injective}
 use lib.ListN.{get_elem?}
 use Rattle.atomic_table.specs.Seated.{TableId}
@@ -11,13 +11,14 @@ use Rattle.scheduler.specs.declared.entry.Entry.{Entry}
 use Rattle.scheduler.specs.MoveTable.{MoveTable, IsMoveTable, region_count, to_fill}
 use Rattle.scheduler.specs.State.{opening, readers_left, unsettled}
 use Rattle.claim_board.proofs.Lemmas.Logs.{tested}
-use Rattle.claim_board.specs.declared.rule.key.Key.{Key}
 use Rattle.claim_board.specs.declared.pass.Pass.{Pass}
+use Rattle.claim_board.specs.declared.rule.table_key.TableKey.{TableKey}
 use Rattle.claim_board.specs.declared.rule.view.Hold.{Hold}
 use Rattle.claim_board.specs.declared.rule.view.View.{View}
-use Rattle.claim_board.specs.Views.{hold, fresh, rest_of, head_of, times_held, total, AllFit, ViewFits, worker_of, seen_of, mine_of}
-use Rattle.claim_board.specs.Rule.{kept, Kept, word_of, all_workers, others_of, first_of}
-use Rattle.claim_board.specs.Boards.{IsNew, ArePassesFrom}
+use Rattle.claim_board.specs.Views.{hold, fresh, rest_of, head_of, times_held, total, AllFit, ViewFits, IsPassView, worker_of, seen_of, mine_of}
+use Rattle.claim_board.specs.Rule.{Kept, word_of, others_of, first_of}
+use Rattle.claim_board.specs.Slots.{slots, first_of_slot, moved_of, home_at, kept, all_workers}
+use Rattle.claim_board.specs.Boards.{IsNew, ArePassesFrom, AllBare, held}
 use Rattle.claim_board.proofs.Lemmas.Totals.{total_set, total_snoc}
 
 pub at_old : (xs : List ℕ) (x k : ℕ) → k < length xs → get_or (xs ++ x ∷ []) k 0 ≡ get_or xs k 0
@@ -66,10 +67,10 @@ fresh_once : (n x : ℕ) (b : Bool) → nat_lt x n ≡ b → times_held x (fresh
 fresh_once n x true e = let h = fresh_held 0 n x (omega arith) (grind arith) in omega arith
 fresh_once n x false e = let h = fresh_over 0 n x (grind arith) in omega arith
 
--- the rule at the opening
-pub opens : (k : Key) (words : List ℕ) (m : MoveTable) → m ≡ k.moves → IsMoveTable m → length words ≡ suc (region_count m) → ((r : ℕ) → r < region_count m → slice_index words r ≡ word_of m opening r)
-    → slice_index words (region_count m) ≡ unsettled m opening → kept k (opened words [] (all_workers k))
-opens k words m is lawful size each rest = subst (λ c. Kept c k.workers words (all_workers k ∷ [])) is (record {
+-- the rule of the words at the opening
+opens_words : (m : MoveTable) (workers : ℕ) (words : List ℕ) → IsMoveTable m → length words ≡ suc (region_count m) → ((r : ℕ) → r < region_count m → slice_index words r ≡ word_of m opening r)
+    → slice_index words (region_count m) ≡ unsettled m opening → Kept m workers words (record { note = []; holds = fresh 0 workers } ∷ [])
+opens_words m workers words lawful size each rest = record {
   table = lawful;
   log = [];
   legal = tt;
@@ -77,13 +78,47 @@ opens k words m is lawful size each rest = subst (λ c. Kept c k.workers words (
   each_word = each;
   remaining = rest;
   each_view = view;
-  once = λ x. fresh_once k.workers x (nat_lt x k.workers) refl;
-  counted = let h = fresh_length 0 k.workers in omega arith;
-})
+  once = λ x. fresh_once workers x (nat_lt x workers) refl;
+  counted = let h = fresh_length 0 workers in omega arith;
+}
   where
-    view : (by : ℕ) (v : View) → get_elem? (all_workers k ∷ []) by ≡ some v → ViewFits k.workers [] v
-    view zero v e = subst (ViewFits k.workers []) (some-injective _ _ e) (([], refl), fresh_fit k.workers 0 k.workers (omega arith))
+    view : (by : ℕ) (v : View) → get_elem? (record { note = []; holds = fresh 0 workers } ∷ []) by ≡ some v → ViewFits workers [] v
+    view zero v e = subst (ViewFits workers []) (some-injective _ _ e) (([], refl), fresh_fit workers 0 workers (omega arith))
     view (suc by) v e = absurd (some-ne-none v (sym e))
+
+-- the rule at the opening of a table with no slots
+pub opens : {X : Type 0} (k : TableKey X) (words : List ℕ) → slots k ≡ 0 → IsMoveTable k.moves → length words ≡ suc (region_count k.moves) → ((r : ℕ) → r < region_count k.moves → slice_index words r ≡ word_of k.moves opening r)
+    → slice_index words (region_count k.moves) ≡ unsettled k.moves opening → kept k (opened words [] (all_workers k))
+unfolding opens_words
+opens k words none lawful size each rest = record {
+  words_kept = opens_words k.moves k.workers words lawful size each rest;
+  fit = record { size = sym none; each = λ i lt. absurd (omega arith) };
+}
+
+at_map : {S : Type 0} (xs : List S) (k : ℕ) (d : S) → k < length xs → get_elem? (map some xs) k ≡ some (some (get_or xs k d))
+at_map [] k d lt = absurd (omega arith)
+at_map (x ∷ xs) zero d lt = refl
+at_map (x ∷ xs) (suc k) d lt = at_map xs k d (omega arith)
+
+long_map : {S : Type 0} (xs : List S) → length (map some xs) ≡ length xs
+long_map [] = refl
+long_map (x ∷ xs) = ap suc (long_map xs)
+
+all_home : {S : Type 0} (m : MoveTable) (first moved : ℕ → S) (k : ℕ) → home_at m first moved opening k ≡ some (first k)
+all_home m first moved k = go (nat_lt k (length m.pairs))
+  where
+    go : (b : Bool) → (if (if b then true else true) then some (if b then first k else first k) else mathlib.Core.Option.none) ≡ some (first k)
+    go true = refl
+    go false = refl
+
+-- the rule at the opening of a table with slots
+pub opens_slots : {X : Type 0} (k : TableKey X) (words : List ℕ) (values : List (Option X)) → values ≡ k.values.value.items → IsMoveTable k.moves → length words ≡ suc (region_count k.moves)
+    → ((r : ℕ) → r < region_count k.moves → slice_index words r ≡ word_of k.moves opening r) → slice_index words (region_count k.moves) ≡ unsettled k.moves opening → kept k (opened words values (all_workers k))
+unfolding opens_words
+opens_slots k words values are lawful size each rest = record {
+  words_kept = opens_words k.moves k.workers words lawful size each rest;
+  fit = record { size = long_map values ∙ ap length are; each = λ i lt. at_map values i None (let z = ap length are in omega arith) ∙ (ap (λ vs. some (some (get_or vs i None))) are ∙ ap some (sym (all_home k.moves (first_of_slot k) (moved_of k) i))) };
+}
 
 rest_fits : (n : ℕ) (log : List Entry) (hs : List Hold) → AllFit n log hs → AllFit n log (rest_of hs)
 rest_fits n log [] f = tt
@@ -104,9 +139,8 @@ length_cut (h ∷ hs) = omega arith
 total_cut : (f : View → ℕ) (views : List View) (id : ℕ) (v a b : View) → get_elem? views id ≡ some v → f v ≡ f a + f b → total f (set views id a ++ b ∷ []) ≡ total f views
 total_cut f views id v a b at e = let s = total_snoc f (set views id a) b in let t = total_set f views id v a at in omega arith
 
--- a worker's seat is cut off
-pub deals : (k : Key) (id : ℕ) (v : View) → Splits (kept k) id v (others_of v) (first_of v)
-deals k id v s h at = record {
+cut : (m : MoveTable) (workers : ℕ) (words : List ℕ) (views : List View) (h : Kept m workers words views) (id : ℕ) (v : View) → get_elem? views id ≡ some v → Kept m workers words (set views id (others_of v) ++ first_of v ∷ [])
+cut m workers words views h id v at = record {
   table = h.table;
   log = h.log;
   legal = h.legal;
@@ -114,31 +148,44 @@ deals k id v s h at = record {
   each_word = h.each_word;
   remaining = h.remaining;
   each_view = view;
-  once = λ x. total_cut (λ u. times_held x u.holds) s.views id v (others_of v) (first_of v) at (times_cut x v.holds) ∙ h.once x;
-  counted = total_cut (λ u. length u.holds) s.views id v (others_of v) (first_of v) at (length_cut v.holds) ∙ h.counted;
+  once = λ x. total_cut (λ u. times_held x u.holds) views id v (others_of v) (first_of v) at (times_cut x v.holds) ∙ h.once x;
+  counted = total_cut (λ u. length u.holds) views id v (others_of v) (first_of v) at (length_cut v.holds) ∙ h.counted;
 }
   where
-    mine : ViewFits k.workers h.log v
+    mine : ViewFits workers h.log v
     mine = h.each_view id v at
 
-    left : ViewFits k.workers h.log (others_of v)
-    left = (mine.0, rest_fits k.workers h.log v.holds mine.1)
+    left : ViewFits workers h.log (others_of v)
+    left = (mine.0, rest_fits workers h.log v.holds mine.1)
 
-    right : ViewFits k.workers h.log (first_of v)
-    right = (mine.0, head_fits k.workers h.log v.holds mine.1)
+    right : ViewFits workers h.log (first_of v)
+    right = (mine.0, head_fits workers h.log v.holds mine.1)
 
-    view : (j : ℕ) (u : View) → get_elem? (set s.views id (others_of v) ++ first_of v ∷ []) j ≡ some u → ViewFits k.workers h.log u
+    view : (j : ℕ) (u : View) → get_elem? (set views id (others_of v) ++ first_of v ∷ []) j ≡ some u → ViewFits workers h.log u
     view j u there = ⊎_elim
-        (λ (t : get_elem? (set s.views id (others_of v)) j ≡ some u). ⊎_elim
-        (λ (q : (j ≡ id) × (others_of v ≡ u)). subst (ViewFits k.workers h.log) q.1 left)
-        (λ (q : (j ≢ id) × (get_elem? s.views j ≡ some u)). h.each_view j u q.1)
-        (at_set s.views id j (others_of v) u t))
-        (λ (t : first_of v ≡ u). subst (ViewFits k.workers h.log) t right)
-        (at_snoc (set s.views id (others_of v)) (first_of v) u j there)
+        (λ (t : get_elem? (set views id (others_of v)) j ≡ some u). ⊎_elim
+        (λ (q : (j ≡ id) × (others_of v ≡ u)). subst (ViewFits workers h.log) q.1 left)
+        (λ (q : (j ≢ id) × (get_elem? views j ≡ some u)). h.each_view j u q.1)
+        (at_set views id j (others_of v) u t))
+        (λ (t : first_of v ≡ u). subst (ViewFits workers h.log) t right)
+        (at_snoc (set views id (others_of v)) (first_of v) u j there)
+
+-- a worker's seat is cut off
+pub deals : {X : Type 0} (k : TableKey X) (id : ℕ) (v : View) → Splits (kept k) id v (others_of v) (first_of v)
+unfolding cut
+deals k id v s h at = record { words_kept = cut k.moves k.workers s.words s.views h.words_kept id v at; fit = h.fit }
+
+-- the seat of one worker has nobody else
+pub all_of_it : (v : View) → IsPassView v → first_of v ≡ v
+all_of_it v is = ap first_of is ∙ sym is
 
 pub passes_push : (z : TableId) (k : ℕ) (ps : List Pass) (p : Pass) (n : ℕ) → n ≡ k + length ps → ArePassesFrom z k ps → IsNew z n p → ArePassesFrom z k (ps ++ p ∷ [])
 passes_push z k [] p n e are new = (subst (λ (q : ℕ). IsNew z q p) (omega arith) new, tt)
 passes_push z k (q ∷ qs) p n e are new = (are.0, passes_push z (suc k) qs p n (omega arith) are.1 new)
+
+pub bare_push : (ps : List Pass) (p : Pass) → AllBare ps → held p ≡ [] → AllBare (ps ++ p ∷ [])
+bare_push [] p all is = (is, tt)
+bare_push (q ∷ qs) p all is = (all.0, bare_push qs p all.1 is)
 
 -- the workers that are left to deal
 pub left_to_deal : (k a b : ℕ) → b ≡ suc a → others_of (record { note = []; holds = fresh k b }) ≡ record { note = []; holds = fresh (suc k) a }
@@ -148,14 +195,14 @@ pub next_to_deal : (k a b : ℕ) → b ≡ suc a → first_of (record { note = [
 next_to_deal k a b e = ap (λ n. first_of (record { note = []; holds = fresh k n })) e
 
 -- the seat that is left, once one more pass is dealt
-pub dealt : (l l' a a' : ℕ) (me me' : View × List (ℕ × ℕ)) → me' ≡ (others_of me.0, me.1) → me ≡ (record { note = []; holds = fresh l (suc a) }, []) → l' ≡ l + 1 → a ≡ suc a' → me' ≡ (record { note = []; holds = fresh l' (suc a') }, [])
-dealt l l' a a' me me' is was e f =
+pub dealt : {S : Type 0} (l l' a a' : ℕ) (me me' : View × List (ℕ × S)) → me' ≡ (others_of me.0, me.1) → me ≡ (record { note = []; holds = fresh l (suc a) }, []) → l' ≡ l + 1 → a ≡ suc a' → me' ≡ (record { note = []; holds = fresh l' (suc a') }, [])
+dealt {S} l l' a a' me me' is was e f =
     let x : suc l ≡ l' = omega arith in
-    is ∙ (ap (λ (m : View × List (ℕ × ℕ)). (others_of m.0, m.1)) was ∙ (ap (λ n. (record { note = []; holds = fresh n a }, [])) x ∙ ap (λ n. (record { note = []; holds = fresh l' n }, [])) f))
+    is ∙ (ap (λ (m : View × List (ℕ × S)). (others_of m.0, m.1)) was ∙ (ap (λ n. (record { note = []; holds = fresh n a }, [])) x ∙ ap (λ n. (record { note = []; holds = fresh l' n }, [])) f))
 
 -- the pass that is dealt
-pub dealt_one : (l a : ℕ) (me : View × List (ℕ × ℕ)) (v : View) → v ≡ first_of me.0 → me ≡ (record { note = []; holds = fresh l (suc a) }, []) → v ≡ record { note = []; holds = hold l [] [] [] ∷ [] }
-dealt_one l a me v is was = is ∙ ap (λ (m : View × List (ℕ × ℕ)). first_of m.0) was
+pub dealt_one : {S : Type 0} (l a : ℕ) (me : View × List (ℕ × S)) (v : View) → v ≡ first_of me.0 → me ≡ (record { note = []; holds = fresh l (suc a) }, []) → v ≡ record { note = []; holds = hold l [] [] [] ∷ [] }
+dealt_one {S} l a me v is was = is ∙ ap (λ (m : View × List (ℕ × S)). first_of m.0) was
 
 pub new_pass : (z : TableId) (k : ℕ) (t : TableId) (v : View) → t ≡ z → v ≡ record { note = []; holds = hold k [] [] [] ∷ [] } → (t ≡ z) × (worker_of v ≡ k) × (seen_of v ≡ []) × (mine_of v ≡ [])
 new_pass z k t v there is = (there, ap worker_of is, ap seen_of is, ap mine_of is)

@@ -8,7 +8,7 @@ use Rattle.scheduler.specs.History.{AgreeOn}
 use Rattle.claim_board.specs.declared.board.Board.{Board}
 use Rattle.claim_board.specs.declared.tokens.done.Done.{Done}
 use Rattle.claim_board.specs.declared.pass.Pass.{Pass}
-use Rattle.claim_board.specs.Boards.{moves, caller, Appends}
+use Rattle.claim_board.specs.Boards.{moves, caller, Appends, AppendsTo}
 use Rattle.claim_board.specs.Callers.{Caller, own, Gains}
 use Rattle.claim_board.specs.Tickets.{IsDoneOf, Spares}
 use Rattle.claim_board.specs.Others.{LeavesOthers}
@@ -34,7 +34,11 @@ leaves m r old new event reply g spares =
       dones = λ d apart is. leaves_dones old new d event reply is g (spares d.region apart);
     }
 
--- a call of a board, as one of its caller's
+-- a call of a pass, as one of its caller's
+pub gains_to : (m : MoveTable) (workers : ℕ) (old new : Pass) (event : Event) (reply : Reply) → AppendsTo m workers old new event reply → Gains (caller old) (caller new) event reply
+gains_to m workers old new event reply e = let x = e.history in record { board = e.board; worker = e.worker; seen = (x.before, x.begins, x.seen_is); mine = x.mine_is }
+
+-- a call of a board
 pub gains_call : (b : Board) (old new : Pass) (event : Event) (reply : Reply) → Appends b old new event reply → Gains (caller old) (caller new) event reply
 gains_call b old new event reply e = let x = e.history in record { board = e.board; worker = e.worker; seen = (x.before, x.begins, x.seen_is); mine = x.mine_is }
 

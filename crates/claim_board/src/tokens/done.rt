@@ -1,6 +1,6 @@
 ghost use Rattle.std.specs.Prelude.{◌≡◌};
 
-use crate::rule::steps::Place;
+use crate::rule::Place;
 use std::snapshot::Snapshot;
 
 /// A completed region that isn't settled. Must be spent by `Board::settle` or given up.

@@ -1,6 +1,6 @@
 ghost use Rattle.std.specs.Prelude.{◌≡◌};
 
-use crate::rule::steps::Place;
+use crate::rule::Place;
 use std::snapshot::Snapshot;
 
 /// A claimed region, to be filled by the worker that claimed it. Must be spent by `Board::complete` or

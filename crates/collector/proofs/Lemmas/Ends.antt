@@ -4,8 +4,8 @@ use Rattle.std.proofs.lemmas.Bool.{false≢true}
 use Rattle.image_streams.specs.declared.fault.Fault.{Fault}
 use Rattle.image_streams.specs.declared.fault.Fault.TheVariants.{TruncatedHeader, Magic, RegionLog, Length, TruncatedBody, LiveOrder, Header, Overlap, Reference, Trailing, Memory, Workers, Io, Schedule, Overwritten, Gate, Root}
 use Rattle.fill.specs.FillFaults.{IsOverwritten}
-use Rattle.collector.specs.declared.workers.worker.Halt.{Halt}
-use Rattle.collector.specs.declared.workers.worker.Halt.TheVariants.{Stopped, Failed}
+use Rattle.collector.specs.declared.workers.end.End.{End}
+use Rattle.collector.specs.declared.workers.end.End.TheVariants.{Stopped, Failed}
 use Rattle.collector.specs.Ends.{MayEnd, is_overwritten, may_end}
 use Rattle.collector.specs.Halts.{met_fault}
 
@@ -14,10 +14,10 @@ raised : (fault : Fault) → IsOverwritten fault → is_overwritten fault ≡ tr
 unfolding is_overwritten
 raised fault over = ap is_overwritten over.1
 
-pub flagged : (end : Result Unit Halt) → IfErr end MayEnd → may_end end ≡ true
+pub flagged : (end : Result Unit End) → IfErr end MayEnd → may_end end ≡ true
 unfolding may_end
 flagged (Ok _) may = refl
-flagged (Err Stopped) may = refl
+flagged (Err (Stopped held)) may = refl
 flagged (Err (Failed fault)) may = raised fault may
 
 -- a fault with the flag is overwritten
@@ -42,8 +42,8 @@ named Gate e = absurd (false≢true e)
 named (Root _) e = absurd (false≢true e)
 
 -- the fault that a worker has met itself is one that it may end with
-pub met_so : (end : Result Unit Halt) → may_end end ≡ true → IfSome (met_fault end) IsOverwritten
+pub met_so : (end : Result Unit End) → may_end end ≡ true → IfSome (met_fault end) IsOverwritten
 unfolding met_fault may_end
 met_so (Ok _) e = search
-met_so (Err Stopped) e = search
+met_so (Err (Stopped held)) e = search
 met_so (Err (Failed fault)) e = named fault e

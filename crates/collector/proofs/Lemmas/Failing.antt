@@ -1,14 +1,13 @@
 -- The causes of a collection's fault.
-use Rattle.std.proofs.Common.{◌≡◌, ℕ, ◌<◌, List, ◌++◌, length, take, get_or, sym, ap, ◌∙◌, subst, inl, inr, Err, arith}
+use Rattle.std.proofs.Common.{◌≡◌, ℕ, ◌<◌, List, ◌++◌, length, take, get_or, sym, ap, ◌∙◌, subst, inl, inr, Err}
 use Rattle.std.specs.Prelude.{All, IfErr}
 use Rattle.std.proofs.Math.Seq.{take-append_seam}
 use Rattle.object_heap.specs.HeapImage.{HeapImage}
 use Rattle.image_streams.specs.declared.fault.Fault.{Fault}
 use Rattle.image_streams.specs.declared.fault.Fault.TheVariants.{Overwritten, Gate}
-use Rattle.summary.specs.RegionData.{fill_count}
 use Rattle.collector.specs.declared.workers.worker.Worker.{Worker}
-use Rattle.collector.specs.declared.workers.worker.Halt.TheVariants.{Failed}
-use Rattle.collector.specs.Halts.{MayHalt, MayRefuse, IsLostTo}
+use Rattle.collector.specs.declared.workers.end.End.TheVariants.{Failed}
+use Rattle.collector.specs.Halts.{MayEndEarly, MayRefuse, IsLostTo}
 
 -- a worker that failed has its fault in the list
 abbrev pub HasFailed : {S : Type 0} → List (Worker S) → Fault → Type 0
@@ -20,10 +19,10 @@ front_of n xs rest whole = ap (λ (k : ℕ). take k (xs ++ rest)) whole ∙ take
 
 -- a fault that a worker met has one of the causes of a halt
 pub cause_of : {S : Type 0} (may_fail : Fault → Type 0) (may_refuse : ℕ → Type 0) (regions : ℕ) (workers : List (Worker S)) (fault : Fault)
-    → All (λ w. IfErr w.result (MayHalt may_fail may_refuse regions)) workers → HasFailed workers fault → MayHalt may_fail may_refuse regions (Failed fault)
+    → All (λ w. IfErr w.result (MayEndEarly may_fail may_refuse regions)) workers → HasFailed workers fault → MayEndEarly may_fail may_refuse regions (Failed fault)
 cause_of {S = S} may_fail may_refuse regions workers fault causes failed =
-    subst (λ e. IfErr e (MayHalt may_fail may_refuse regions)) failed.4
-    (subst (λ (w : Worker S). IfErr w.result (MayHalt may_fail may_refuse regions)) failed.3 (causes failed.0 failed.1 failed.2))
+    subst (λ e. IfErr e (MayEndEarly may_fail may_refuse regions)) failed.4
+    (subst (λ (w : Worker S). IfErr w.result (MayEndEarly may_fail may_refuse regions)) failed.3 (causes failed.0 failed.1 failed.2))
 
 -- if it is the gate's, and no fault of the desk, the gate may refuse
 pub refused_by : (may_fail : Fault → Type 0) (may_refuse : ℕ → ℕ → Type 0) (workers : ℕ) (image : HeapImage) (fault : Fault) → fault ≡ Gate
@@ -31,9 +30,3 @@ pub refused_by : (may_fail : Fault → Type 0) (may_refuse : ℕ → ℕ → Typ
 refused_by may_fail may_refuse workers image fault gate not (inl (inl own)) = absurd (not own)
 refused_by may_fail may_refuse workers image fault gate not (inl (inr over)) = absurd (let f : Gate ≡ Overwritten over.0 = sym gate ∙ over.1 in cc)
 refused_by may_fail may_refuse workers image fault gate not (inr refused) = refused.1
-
--- what halts worker 0 loses a collection by one worker
-pub lost_alone : (may_fail : Fault → Type 0) (may_refuse : ℕ → ℕ → Type 0) (image : HeapImage) (fault : Fault)
-    → MayHalt may_fail (may_refuse 0) (fill_count image) (Failed fault) → IsLostTo may_fail may_refuse 1 image fault
-lost_alone may_fail may_refuse image fault (inl own) = inl own
-lost_alone may_fail may_refuse image fault (inr refused) = inr (refused.0, (refused.1.0, refused.1.1, (0, omega arith, refused.1.2)))

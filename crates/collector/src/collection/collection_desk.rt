@@ -1,5 +1,6 @@
-ghost use Rattle.std.specs.Prelude.{◌≡◌, ◌<◌, ◌≤◌, ℕ, All, vec_len, IfOk};
+ghost use Rattle.std.specs.Prelude.{◌≡◌, ◌<◌, ◌≤◌, ℕ, All, map, vec_len, IfOk};
 ghost use Rattle.scheduler.specs.ImageMoves.{image_table};
+ghost use Rattle.collector.specs.Rest.{AreFresh};
 
 use claim_board::{Board, Pass, Recorder, Seating};
 use std::alloc::{AllocError, Global};
@@ -17,7 +18,11 @@ pub(crate) trait CollectionDesk: Seating {
         ensures moves { IfOk result (λ opened. Self.moves opened.0 ≡ image_table plan.now) }
         ensures workers { IfOk result (λ opened. worker_count opened.0 ≡ workers) }
         ensures count { IfOk result (λ opened. vec_len opened.1 ≡ workers) }
-        ensures seats { IfOk result (λ opened. All (Self.serves opened.0) opened.1.items) };
+        ensures seats { IfOk result (λ opened. All (Self.serves opened.0) opened.1.items) }
+        ensures fresh { Self.tells → IfOk result (λ opened. AreFresh (map Self.caller opened.1.items)) };
+
+    /// Whether a look is no line of a schedule.
+    fn looks_freely(&self) -> bool;
 }
 
 /// The seats are the passes.
@@ -29,6 +34,10 @@ impl CollectionDesk for Board {
     #[tactic(auto, using(crate::proofs::Lemmas::Passes::all_seated))]
     fn open(alloc: Global, plan: &Plan, workers: u32) -> Result<(Board, Vec<Pass>), AllocError> {
         Board::new(alloc, plan, workers)
+    }
+
+    fn looks_freely(&self) -> bool {
+        true
     }
 }
 
@@ -42,5 +51,9 @@ impl CollectionDesk for Recorder {
         let recorder = Recorder::new(alloc, plan, workers)?;
         let numbers = (0..workers).collect(alloc)?;
         Ok((recorder, numbers))
+    }
+
+    fn looks_freely(&self) -> bool {
+        false
     }
 }

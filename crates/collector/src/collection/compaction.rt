@@ -1,28 +1,31 @@
 //! The compaction of an image by workers, over any desk.
-ghost use Rattle.std.specs.Prelude.{◌≡◌, ◌<◌, ◌≤◌, ◌↔◌, ◌⊎◌, ℕ, [], All, vec_len, IfOk, IfErr, IfSome, slice_index_or, length, None, Err};
+ghost use Rattle.std.specs.Prelude.{◌≡◌, ◌<◌, ◌≤◌, ◌↔◌, ◌⊎◌, ℕ, [], All, vec_len, IfOk, IfErr, OnOk, IfSome, IfNone, slice_index_or, length, None, Err};
 ghost use Rattle.std.specs.Vec.{vec_capacity};
+ghost use Rattle.summary.specs.RegionData.{fill_count};
 ghost use Rattle.summary.specs.Compaction.{compact};
 ghost use Rattle.scheduler.specs.ImageMoves.{image_table};
 ghost use Rattle.scheduler.specs.State.{AllAreSettled};
 ghost use Rattle.scheduler.specs.History.{IsLegal, state_of};
 ghost use Rattle.scheduler.specs.Whole.{HasEachOnce};
-ghost use Rattle.claim_board.specs.Boards.{moves as moves_of, worker_count, identity, board_of};
+ghost use Rattle.claim_board.specs.Boards.{moves as moves_of, worker_count, identity, board_of, caller};
 ghost use Rattle.claim_board.specs.Finishes.{history};
 ghost use Rattle.fill.specs.FillFaults.{IsOverwritten};
 ghost use Rattle.collector.specs.Halts.{IsLostTo, met_fault};
+ghost use Rattle.collector.specs.Rest.{AreFresh, AreStopped, IsFilled, callers_of};
 ghost use Rattle.collector.specs.Collections.{figures_of, AreNoneOrTooMany, IfKept, IfLost};
 ghost use Rattle.collector.specs.declared.outcome.Refusal.TheVariants.{Kept};
-ghost use Rattle.collector.specs.declared.workers.worker.Halt.TheVariants.{Failed};
+ghost use Rattle.collector.specs.declared.workers.end.End.TheVariants.{Failed};
 
 use super::collection_desk::CollectionDesk;
 use super::redirector::Redirector;
 use crate::gate::Gate;
 use crate::outcome::{Outcome, Refusal};
+use crate::workers::fill_left::fill_left;
 use crate::workers::fill_task::{FillTask, work_all};
 use crate::workers::queues::workers_of;
 use crate::workers::shared::Shared;
 use crate::workers::start_line::StartLine;
-use crate::workers::worker::{Halt, Worker};
+use crate::workers::worker::Worker;
 use claim_board::{Board, Desk, Finished, Pass};
 use heap_image::{Fault, Image};
 use retry_policy::RetryPolicy;
@@ -67,6 +70,8 @@ where
         ensures survey { IfOk result (λ made. made.shared.survey ≡ image) }
         ensures workers { IfOk result (λ made. vec_len made.workers ≡ workers) }
         ensures seats { IfOk result (λ made. All (λ w. D.serves made.shared.desk w.seat) made.workers.items) }
+        ensures fresh { D.tells → IfOk result (λ made. AreFresh (callers_of D.caller made.workers.items)) }
+        ensures stopped { D.tells → IfOk result (λ made. AreStopped (D.moves made.shared.desk) (fill_count made.shared.survey) D.caller made.workers.items) }
         ensures kept { IfErr result (λ refusal. IfKept refusal
             (λ back fault. (back ≡ image) × ((fault ≡ Fault.Memory) ⊎ (fault ≡ Fault.Workers)))) }
         ensures refused { result ≡ Err (Kept image Fault.Workers) ↔ AreNoneOrTooMany workers }
@@ -109,6 +114,8 @@ where
         ensures shared { self.new.shared ≡ self.old.shared }
         ensures workers { vec_len self.new.workers ≡ vec_len self.old.workers }
         ensures seats { All (λ w. D.serves self.new.shared.desk w.seat) self.new.workers.items }
+        ensures stopped { OnOk result (D.tells → AreFresh (callers_of D.caller self.old.workers.items)
+            → AreStopped (D.moves self.new.shared.desk) (fill_count self.new.shared.survey) D.caller self.new.workers.items) }
         ensures fault { IfErr result (IsLostTo D.may_fail (G.may_refuse gate.now) (vec_len self.old.workers) self.old.shared.survey) }
     {
         let shared = &self.shared;
@@ -119,28 +126,49 @@ where
             None => Ok(()),
         }
     }
+}
 
-    /// Lets worker 0 fill all regions in the caller's thread. Returns the fault that it met.
-    pub(crate) fn work_alone<'a, G: Gate, W: RetryPolicy>(
+impl Compaction<Board> {
+    /// Runs all workers, if there are several. Returns the fault of the lowest worker that met one.
+    pub(crate) fn work_if_several<'a, G: Gate + Sync, T: Threads + Sync, W: RetryPolicy + Sync>(
+        &mut self,
+        gate: &'a G,
+        threads: &T,
+        wait: &'a W,
+    ) -> Result<(), Fault>
+        requires seats { All (λ w. board_of w.seat ≡ identity self.old.shared.desk) self.old.workers.items }
+        requires fresh { AreFresh (callers_of caller self.old.workers.items) }
+        requires stopped { AreStopped (moves_of self.old.shared.desk) (fill_count self.old.shared.survey) caller self.old.workers.items }
+        ensures shared { self.new.shared ≡ self.old.shared }
+        ensures workers { vec_len self.new.workers ≡ vec_len self.old.workers }
+        ensures seats { All (λ w. board_of w.seat ≡ identity self.new.shared.desk) self.new.workers.items }
+        ensures stopped { OnOk result (AreStopped (moves_of self.new.shared.desk) (fill_count self.new.shared.survey) caller self.new.workers.items) }
+        ensures fault { IfErr result (IsLostTo (λ _. ⊥) (G.may_refuse gate.now) (vec_len self.old.workers) self.old.shared.survey) }
+    {
+        if self.workers.len() == 1 {
+            return Ok(());
+        }
+        self.work(&StartLine::open(), gate, threads, wait)
+    }
+
+    /// Fills what the workers left, in the caller's thread, once all of them have stopped. All regions to fill are settled
+    /// then. Returns the gate's refusal, or a cell's fault.
+    pub(crate) fn fill_left<'a, G: Gate, W: RetryPolicy>(
         &mut self,
         gate: &'a G,
         wait: &'a W,
     ) -> Result<(), Fault>
-    where
-        D: Desk<W>,
-        requires seats { All (λ w. D.serves self.old.shared.desk w.seat) self.old.workers.items }
+        requires seats { All (λ w. board_of w.seat ≡ identity self.old.shared.desk) self.old.workers.items }
+        requires stopped { AreStopped (moves_of self.old.shared.desk) (fill_count self.old.shared.survey) caller self.old.workers.items }
         ensures shared { self.new.shared ≡ self.old.shared }
         ensures workers { vec_len self.new.workers ≡ vec_len self.old.workers }
-        ensures seats { All (λ w. D.serves self.new.shared.desk w.seat) self.new.workers.items }
-        ensures fault { IfErr result (IsLostTo D.may_fail (G.may_refuse gate.now) 1 self.old.shared.survey) }
+        ensures seats { All (λ w. board_of w.seat ≡ identity self.new.shared.desk) self.new.workers.items }
+        ensures filled { OnOk result (IsFilled (moves_of self.new.shared.desk) (vec_len self.new.workers) (callers_of caller self.new.workers.items)) }
+        ensures fault { IfErr result (IsLostTo (λ _. ⊥) (G.may_refuse gate.now) (vec_len self.old.workers) self.old.shared.survey) }
     {
         let shared = &self.shared;
         let task = FillTask { shared, gate, wait };
-        let end = task.fill_until_settled(0, &mut self.workers[0]);
-        if let Err(Halt::Failed(fault)) = end {
-            return Err(fault);
-        }
-        Ok(())
+        fill_left(&task, self.workers.as_mut_slice())
     }
 }
 
@@ -151,6 +179,7 @@ pub(crate) fn finish_collection<R: Redirector>(
 ) -> Result<(Outcome, Finished), Fault>
     requires start { R.may_start }
     requires seats { All (λ w. board_of w.seat ≡ identity filled.shared.desk) filled.workers.items }
+    requires filled { IsFilled (moves_of filled.shared.desk) (vec_len filled.workers) (callers_of caller filled.workers.items) }
     ensures image { IfOk result (λ done. done.0.image ≡ compact filled.shared.survey) }
     ensures figures { IfOk result (λ done. done.0.figures ≡ figures_of filled.shared.survey) }
     ensures legal { IfOk result (λ done. IsLegal (image_table filled.shared.survey) (vec_len filled.workers) (history done.1)) }
@@ -160,15 +189,16 @@ pub(crate) fn finish_collection<R: Redirector>(
     let (outcome, survey, board) = filled.shared.clean_up(redirector)?;
     settled_histories_have_each_once();
     moves_are_lawful(survey.plan());
-    let finished = finish(board, filled.workers, filled.seats)?;
+    let finished = finish(board, filled.workers, filled.seats);
     Ok((outcome, finished))
 }
 
 /// The fault of the lowest worker that met one.
 fn first_fault<S>(workers: &[Worker<S>]) -> Option<Fault>
-    ensures { IfSome result (λ fault. (k : ℕ) × (w : _) × (k < length workers.now)
+    ensures lowest { IfSome result (λ fault. (k : ℕ) × (w : _) × (k < length workers.now)
         × (slice_index_or workers.now k w ≡ w) × (w.result ≡ Err (Failed fault))
         × ((j : ℕ) (v : _) → j < k → met_fault (slice_index_or workers.now j v).result ≡ None)) }
+    ensures none { IfNone result (All (λ w. met_fault w.result ≡ None) workers.now) }
 {
     for worker in workers {
         let met = worker.fault();
@@ -179,25 +209,21 @@ fn first_fault<S>(workers: &[Worker<S>]) -> Option<Fault>
     None
 }
 
-/// Finishes the board with the passes of all workers, for which `passes` has room. Contracts don't show the flag that stops
-/// workers early, so none says that the board is finished here.
-fn finish(
-    board: Board,
-    mut workers: Vec<Worker<Pass>>,
-    mut passes: Vec<Pass>,
-) -> Result<Finished, Fault>
+/// Finishes the board with the passes of all workers, for which `passes` has room.
+fn finish(board: Board, mut workers: Vec<Worker<Pass>>, mut passes: Vec<Pass>) -> Finished
     requires seats { All (λ w. board_of w.seat ≡ identity board) workers.items }
+    requires all { vec_len workers ≡ worker_count board }
+    requires filled { IsFilled (moves_of board) (vec_len workers) (callers_of caller workers.items) }
     requires empty { passes.items ≡ [] }
     requires room { vec_len workers ≤ vec_capacity passes }
-    ensures legal { IfOk result (λ finished. IsLegal (moves_of board) (worker_count board) (history finished)) }
-    ensures settled { IfOk result (λ finished. AllAreSettled (moves_of board) (state_of (history finished))) }
-    ensures fault { IfErr result IsOverwritten }
+    ensures legal { IsLegal (moves_of board) (worker_count board) (history result) }
+    ensures settled { AllAreSettled (moves_of board) (state_of (history result)) }
 {
     while let Some(worker) = workers.pop() {
-        passes.push_reserved(worker.seat);
+        passes.push_reserved(worker.into_seat());
     }
-    match board.finish(passes) {
-        Some(finished) => Ok(finished),
-        None => Err(Fault::Overwritten(0)),
-    }
+    let Some(finished) = board.finish(passes) else {
+        unreachable!();
+    };
+    finished
 }

@@ -6,13 +6,15 @@ ghost use Rattle.summary.specs.Compaction.{compact};
 ghost use Rattle.claim_board.specs.Boards.{identity, board_of};
 ghost use Rattle.fill.specs.FillFaults.{IsOverwritten};
 ghost use Rattle.collector.specs.Collections.{figures_of};
-ghost use Rattle.collector.specs.Ends.{MayEnd, may_end};
+ghost use Rattle.collector.specs.Ends.{MayHalt, may_end};
 
 use super::Session;
 use super::dealing::image_of_last;
+use super::halt::Halt;
 use super::progress::Progress;
 use crate::outcome::Outcome;
-use crate::workers::worker::{Halt, Worker};
+use crate::workers::end::End;
+use crate::workers::worker::Worker;
 use claim_board::Pass;
 use crossbeam_utils::Backoff;
 use heap_image::{Fault, Image};
@@ -41,7 +43,7 @@ impl Share {
         requires numbered { number < vec_len (arc_value session).shared.thieves }
         ensures { result.session ≡ session }
     {
-        worker.result = Err(Halt::Stopped);
+        worker.result = Err(End::Stopped(None));
         Share {
             session,
             worker,
@@ -51,12 +53,12 @@ impl Share {
 
     /// Fills regions that are ready, at most `turns`. Returns at once if none is ready. Allocates nothing and never waits.
     ///
-    /// Returns `Failed` with fault 15 if a cell or a queue contradicts the order of work, in each later call too, and
+    /// Returns `Failed` with fault 15 if a cell contradicts the order of work, in each later call too, and
     /// `Stopped` once another share has met a fault.
     #[tactic(auto, using(crate::proofs::Lemmas::Ends::flagged))]
     pub fn work(&mut self, turns: u64) -> Result<Progress, Halt>
         ensures image { image_of self.new ≡ image_of self.old }
-        ensures halt { IfErr result MayEnd }
+        ensures halt { IfErr result MayHalt }
     {
         if let Some(fault) = self.fault() {
             return Err(Halt::Failed(fault));
@@ -69,16 +71,16 @@ impl Share {
     /// [`work`](Share::work).
     pub fn work_all(&mut self) -> Result<(), Halt>
         ensures image { image_of self.new ≡ image_of self.old }
-        ensures halt { IfErr result MayEnd }
+        ensures halt { IfErr result MayHalt }
     {
         let backoff = Backoff::new();
         for _ in 0..u64::MAX {
             if self.work(u64::MAX)? == Progress::Settled {
-                return Ok(());
+                break;
             }
             backoff.spin();
         }
-        Err(Halt::Failed(Fault::Overwritten(0)))
+        Ok(())
     }
 
     /// Ends the session, and returns the compaction and its figures. `others` are the shares of all other workers. Fills
@@ -97,9 +99,10 @@ impl Share {
         if let Some(fault) = first_fault(others.as_slice()) {
             return Err(fault);
         }
-        if let Err(Halt::Failed(fault)) = self.work_all() {
+        if let Some(fault) = self.fault() {
             return Err(fault);
         }
+        self.fill_rest()?;
         drop(others);
         self.close()
     }
@@ -140,6 +143,15 @@ impl Share {
     pub fn are_all_counted(&self, shares: usize) -> bool {
         self.session.presented.load(Ordering::SeqCst) == shares
             && self.session.shared.thieves.len() == shares
+    }
+
+    /// Fills what is left to fill, once no other share works. Returns fault 15 if a cell contradicts the order of work.
+    fn fill_rest(&mut self) -> Result<(), Fault>
+        ensures image { image_of self.new ≡ image_of self.old }
+        ensures fault { IfErr result IsOverwritten }
+    {
+        let session: &Session = &self.session;
+        session.fill_rest(self.number, &mut self.worker.seat)
     }
 
     /// Ends the session whose last share this is.

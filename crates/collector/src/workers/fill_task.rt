@@ -1,56 +1,63 @@
 //! What each worker of a collection does.
-ghost use Rattle.std.specs.Prelude.{◌≡◌, ◌<◌, ◌≤◌, ◌^◌, length, vec_len, All, IfOk, IfErr, IfSome};
+ghost use Rattle.std.specs.Prelude.{◌≡◌, ◌<◌, ◌≤◌, ◌^◌, map, length, vec_len, All, IfOk, IfErr, OnOk, IfSome};
 ghost use Rattle.summary.specs.RegionData.{fill_count};
 ghost use Rattle.claim_board.specs.Tickets.{IsUnused, IsTicketOf, IsDoneOf};
 ghost use Rattle.fill.specs.FillFaults.{IsFaultOf};
-ghost use Rattle.collector.specs.Halts.{MayHalt, MayBeRefused};
-ghost use Rattle.collector.specs.declared.workers.worker.Halt.TheVariants.{Stopped};
+ghost use Rattle.collector.specs.Halts.{MayFail, MayEndEarly, MayBeRefused};
+ghost use Rattle.collector.specs.Rest.{StaysTidy, Settles, EndsTidy, AllEndTidy};
 
+use super::end::End;
+use super::held_ticket::HeldTicket;
 use super::shared::Shared;
 use super::start_line::StartLine;
-use super::worker::{Halt, Worker};
+use super::worker::Worker;
+use crate::collection::collection_desk::CollectionDesk;
 use crate::gate::Gate;
 use crate::session::progress::Progress;
-use claim_board::{Desk, Done, Ticket};
+use claim_board::{Desk, Ticket};
 use crossbeam_utils::Backoff;
 use fill::fill_region;
 use heap_image::Fault;
 use retry_policy::RetryPolicy;
-use scheduler::moves_of_images;
+use scheduler::{Reply, moves_of_images};
 use std::sync::atomic::Ordering;
 use std::thread::{Threads, for_each_mut, spawn};
 use summary::laws::plans::planned_image_is_valid;
 use summary::laws::region_data::regions_to_fill;
 
+/// How many regions a worker without a queued region looks at in one turn.
+const LOOKS: u32 = 64;
+
 /// The task of all workers of a collection: to fill its regions.
 #[derive(Drop)]
-pub(crate) struct FillTask<'s, 'a, D: Desk<W> + Drop, G: Gate, W: RetryPolicy> {
+pub(crate) struct FillTask<'s, 'a, D: CollectionDesk + Desk<W> + Drop, G: Gate, W: RetryPolicy> {
     pub(crate) shared: &'s Shared<D>,
     pub(crate) gate: &'a G,
     /// How the workers wait for each other.
     pub(crate) wait: &'a W,
 }
 
-impl<D: Desk<W> + Drop, G: Gate, W: RetryPolicy> FillTask<'_, '_, D, G, W> {
-    /// Fills regions until all are settled, and backs off while none is ready.
+impl<D: CollectionDesk + Desk<W> + Drop, G: Gate, W: RetryPolicy> FillTask<'_, '_, D, G, W> {
+    /// Fills regions until all are settled or another worker has met a fault, and backs off while none is ready.
     pub(crate) fn fill_until_settled(
         &self,
         number: u32,
         worker: &mut Worker<D::Seat>,
-    ) -> Result<(), Halt>
+    ) -> Result<(), End>
         requires number { number < vec_len self.now.shared.now.thieves }
         requires seat { D.serves self.now.shared.now.desk worker.old.seat }
         ensures seat { D.serves self.now.shared.now.desk worker.new.seat }
-        ensures halt { IfErr result (MayHalt D.may_fail (G.may_refuse self.now.gate.now number) (fill_count self.now.shared.now.survey)) }
+        ensures tidy { D.tells → EndsTidy (D.moves self.now.shared.now.desk) (fill_count self.now.shared.now.survey) result (D.caller worker.old.seat) (D.caller worker.new.seat) }
+        ensures early { IfErr result (MayEndEarly D.may_fail (G.may_refuse self.now.gate.now number) (fill_count self.now.shared.now.survey)) }
     {
         let backoff = Backoff::new();
         for _ in 0..u64::MAX {
             if self.fill_ready(number, worker, u64::MAX, &backoff)? == Progress::Settled {
-                return Ok(());
+                break;
             }
             self.wait.back_off(&backoff);
         }
-        Err(Halt::Failed(Fault::Overwritten(0)))
+        Ok(())
     }
 
     /// Fills regions that are ready in at most `turns` turns, until none is. Resets `backoff` once one is.
@@ -60,15 +67,18 @@ impl<D: Desk<W> + Drop, G: Gate, W: RetryPolicy> FillTask<'_, '_, D, G, W> {
         worker: &mut Worker<D::Seat>,
         turns: u64,
         backoff: &Backoff,
-    ) -> Result<Progress, Halt>
+    ) -> Result<Progress, End>
         requires number { number < vec_len self.now.shared.now.thieves }
         requires seat { D.serves self.now.shared.now.desk worker.old.seat }
         ensures seat { D.serves self.now.shared.now.desk worker.new.seat }
-        ensures halt { IfErr result (MayHalt D.may_fail (G.may_refuse self.now.gate.now number) (fill_count self.now.shared.now.survey)) }
+        ensures tidy { D.tells → EndsTidy (D.moves self.now.shared.now.desk) (fill_count self.now.shared.now.survey) result (D.caller worker.old.seat) (D.caller worker.new.seat) }
+        ensures early { IfErr result (MayEndEarly D.may_fail (G.may_refuse self.now.gate.now number) (fill_count self.now.shared.now.survey)) }
     {
         for _ in 0..turns {
-            self.go_on()?;
-            let Some(region) = self.next_region(number, worker) else {
+            if self.is_stopped() {
+                return Err(End::Stopped(None));
+            }
+            let Some(region) = self.next_region(number, worker)? else {
                 return Ok(self.progress_without_region(worker)?);
             };
             backoff.reset();
@@ -83,6 +93,7 @@ impl<D: Desk<W> + Drop, G: Gate, W: RetryPolicy> FillTask<'_, '_, D, G, W> {
     fn progress_without_region(&self, worker: &mut Worker<D::Seat>) -> Result<Progress, Fault>
         requires { D.serves self.now.shared.now.desk worker.old.seat }
         ensures seat { D.serves self.now.shared.now.desk worker.new.seat }
+        ensures tidy { OnOk result (D.tells → StaysTidy (D.caller worker.old.seat) (D.caller worker.new.seat)) }
         ensures fault { IfErr result D.may_fail }
     {
         if self.shared.desk.poll(&mut worker.seat, self.wait)? {
@@ -92,28 +103,60 @@ impl<D: Desk<W> + Drop, G: Gate, W: RetryPolicy> FillTask<'_, '_, D, G, W> {
         }
     }
 
-    /// A region that is ready to be filled, from this worker's queue or stolen from another.
-    fn next_region(&self, number: u32, worker: &mut Worker<D::Seat>) -> Option<u32>
-        requires { number < vec_len self.now.shared.now.thieves }
-        ensures seat { worker.new.seat ≡ worker.old.seat }
-        ensures region { IfSome result (λ r. r < fill_count self.now.shared.now.survey) }
+    /// A region that is ready to be filled: from this worker's queue, stolen from another, or the lowest that it hasn't seen
+    /// filled.
+    fn next_region(&self, number: u32, worker: &mut Worker<D::Seat>) -> Result<Option<u32>, Fault>
+        requires number { number < vec_len self.now.shared.now.thieves }
+        requires seat { D.serves self.now.shared.now.desk worker.old.seat }
+        ensures seat { D.serves self.now.shared.now.desk worker.new.seat }
+        ensures tidy { OnOk result (D.tells → StaysTidy (D.caller worker.old.seat) (D.caller worker.new.seat)) }
+        ensures region { IfOk result (λ found. IfSome found (λ r. r < fill_count self.now.shared.now.survey)) }
+        ensures fault { IfErr result D.may_fail }
     {
         let thieves = self.shared.thieves.as_slice();
-        let region = worker.ready.take(thieves, number as usize)?;
-        if region < self.shared.survey.plan().fill_regions() {
-            Some(region)
-        } else {
-            None
+        if let Some(region) = worker.ready.take(thieves, number as usize) {
+            if region < self.shared.survey.plan().fill_regions() {
+                return Ok(Some(region));
+            }
         }
+        self.lowest_open(worker)
+    }
+
+    /// The lowest region to fill that this worker hasn't seen filled, if it may be claimed, so that none is lost that no queue
+    /// has. Makes at most `LOOKS` looks, and none if each would be a line of a schedule.
+    fn lowest_open(&self, worker: &mut Worker<D::Seat>) -> Result<Option<u32>, Fault>
+        requires seat { D.serves self.now.shared.now.desk worker.old.seat }
+        ensures seat { D.serves self.now.shared.now.desk worker.new.seat }
+        ensures tidy { OnOk result (D.tells → StaysTidy (D.caller worker.old.seat) (D.caller worker.new.seat)) }
+        ensures region { IfOk result (λ found. IfSome found (λ r. r < fill_count self.now.shared.now.survey)) }
+        ensures fault { IfErr result D.may_fail }
+    {
+        let (desk, plan) = (&self.shared.desk, self.shared.survey.plan());
+        moves_of_images();
+        regions_to_fill();
+        planned_image_is_valid(plan);
+        let looks = if desk.looks_freely() { LOOKS } else { 0 };
+        for _ in 0..looks {
+            if worker.lowest >= plan.fill_regions() {
+                break;
+            }
+            match desk.look(&mut worker.seat, worker.lowest, self.wait)? {
+                Reply::Filled => worker.lowest += 1,
+                Reply::Open(0) => return Ok(Some(worker.lowest)),
+                _ => break,
+            }
+        }
+        Ok(None)
     }
 
     /// Claims a region, and fills and settles it if it is granted and the gate admits it. Queues the regions to fill that
-    /// have no pending readers any more. Returns whether all regions to fill are settled.
-    fn visit(&self, number: u32, worker: &mut Worker<D::Seat>, region: u32) -> Result<bool, Halt>
+    /// have no pending readers any more, as far as there is room. Returns whether all regions to fill are settled.
+    fn visit(&self, number: u32, worker: &mut Worker<D::Seat>, region: u32) -> Result<bool, End>
         requires seat { D.serves self.now.shared.now.desk worker.old.seat }
         requires region { region < fill_count self.now.shared.now.survey }
         ensures seat { D.serves self.now.shared.now.desk worker.new.seat }
-        ensures halt { IfErr result (MayHalt D.may_fail (G.may_refuse self.now.gate.now number) (fill_count self.now.shared.now.survey)) }
+        ensures tidy { D.tells → EndsTidy (D.moves self.now.shared.now.desk) (fill_count self.now.shared.now.survey) result (D.caller worker.old.seat) (D.caller worker.new.seat) }
+        ensures early { IfErr result (MayEndEarly D.may_fail (G.may_refuse self.now.gate.now number) (fill_count self.now.shared.now.survey)) }
     {
         let (desk, plan) = (&self.shared.desk, self.shared.survey.plan());
         moves_of_images();
@@ -122,40 +165,48 @@ impl<D: Desk<W> + Drop, G: Gate, W: RetryPolicy> FillTask<'_, '_, D, G, W> {
         let Some(ticket) = desk.claim(&mut worker.seat, region, self.wait)? else {
             return Ok(false);
         };
-        if let Err(halt) = self.admit(number, region) {
-            ticket.give_up();
-            return Err(halt);
+        let ticket = self.admit(number, ticket)?;
+        if self.is_stopped() {
+            return Err(End::Stopped(Some(HeldTicket { ticket })));
         }
         let fill_regions = plan.fill_regions();
         let ready = &mut worker.ready;
-        let mut refused = None;
         let queue = |source: u32| {
-            if source < fill_regions && !ready.push(source) {
-                refused = Some(source);
+            if source < fill_regions {
+                let _ = ready.push(source);
             }
         };
-        let done = self.fill_region(&mut worker.seat, ticket, queue)?;
-        if let Some(source) = refused {
-            done.give_up();
-            return Err(Halt::Failed(Fault::Overwritten(source)));
-        }
-        self.gate.after_complete(number, region);
-        Ok(desk.settle(&mut worker.seat, done, self.wait)?)
+        Ok(self.fill_admitted(number, &mut worker.seat, ticket, queue)?)
     }
 
-    /// Fills the region of a ticket. Calls `on_last` with each region that has no pending readers any more.
-    fn fill_region<F: FnMut(u32)>(
+    /// The ticket again if the gate admits its region. Otherwise it is given up.
+    pub(crate) fn admit(&self, number: u32, ticket: Ticket) -> Result<Ticket, Fault>
+        requires { ticket.region < fill_count self.now.shared.now.survey }
+        ensures ticket { IfOk result (λ t. t ≡ ticket) }
+        ensures refused { IfErr result (λ fault. (fault ≡ Fault.Gate) × MayBeRefused (G.may_refuse self.now.gate.now number) (fill_count self.now.shared.now.survey)) }
+    {
+        if self.gate.before_fill(number, ticket.region()) {
+            return Ok(ticket);
+        }
+        ticket.give_up();
+        Err(Fault::Gate)
+    }
+
+    /// Fills and settles the region of a ticket. Calls `on_last` with each region that has no pending readers any more.
+    /// Returns whether all regions to fill are settled.
+    pub(crate) fn fill_admitted<F: FnMut(u32)>(
         &self,
+        number: u32,
         seat: &mut D::Seat,
         ticket: Ticket,
         mut on_last: F,
-    ) -> Result<Done, Fault>
+    ) -> Result<bool, Fault>
         requires seat { D.serves self.now.shared.now.desk seat.old }
         requires callable { F.IsAlwaysCallable on_last }
         requires unused { IsUnused ticket }
         requires ticket { D.tells → IsTicketOf (D.moves self.now.shared.now.desk) (D.caller seat.old) ticket }
         ensures seat { D.serves self.now.shared.now.desk seat.new }
-        ensures done { IfOk result (λ done. D.tells → IsDoneOf (D.caller seat.new) done) }
+        ensures settles { OnOk result (D.tells → Settles ticket.region (D.caller seat.old) (D.caller seat.new)) }
         ensures fault { IfErr result (IsFaultOf D.may_fail) }
     {
         let Shared {
@@ -164,37 +215,22 @@ impl<D: Desk<W> + Drop, G: Gate, W: RetryPolicy> FillTask<'_, '_, D, G, W> {
             cells,
             ..
         } = self.shared;
+        let region = ticket.region();
         let (done, _) = fill_region(desk, cells, survey, seat, ticket, &mut on_last, self.wait)?;
-        Ok(done)
+        self.gate.after_complete(number, region);
+        desk.settle(seat, done, self.wait)
     }
 
-    /// Fails if the gate refuses, or if another worker has met a fault while the gate held this one.
-    fn admit(&self, number: u32, region: u32) -> Result<(), Halt>
-        requires { region < fill_count self.now.shared.now.survey }
-        ensures { IfErr result (MayHalt D.may_fail (G.may_refuse self.now.gate.now number) (fill_count self.now.shared.now.survey)) }
-    {
-        if !self.gate.before_fill(number, region) {
-            return Err(Halt::Failed(Fault::Gate));
-        }
-        self.go_on()
-    }
-
-    /// Fails once some worker has met a fault.
-    fn go_on(&self) -> Result<(), Halt>
-        ensures { IfErr result (λ halt. halt ≡ Stopped) }
-    {
-        if self.shared.stop.load(Ordering::SeqCst) {
-            Err(Halt::Stopped)
-        } else {
-            Ok(())
-        }
+    /// Whether some worker has met a fault.
+    fn is_stopped(&self) -> bool {
+        self.shared.stop.load(Ordering::SeqCst)
     }
 }
 
 /// Runs all workers, each in a thread of its own if one can be started, and otherwise one after another. Each waits at the
 /// start line, and then fills regions until all are settled or some worker meets a fault, which stops the others.
 pub(crate) fn work_all<
-    D: Desk<W> + Drop + Sync,
+    D: CollectionDesk + Desk<W> + Drop + Sync,
     G: Gate + Sync,
     T: Threads + Sync,
     W: RetryPolicy + Sync,
@@ -206,7 +242,8 @@ where
     requires thieves { vec_len task.now.shared.now.thieves ≡ length workers.old }
     requires seats { All (λ w. D.serves task.now.shared.now.desk w.seat) workers.old }
     ensures seats { All (λ w. D.serves task.now.shared.now.desk w.seat) workers.new }
-    ensures halts { All (λ w. IfErr w.result (MayHalt D.may_fail
+    ensures tidy { D.tells → AllEndTidy (D.moves task.now.shared.now.desk) (fill_count task.now.shared.now.survey) D.caller workers.old workers.new }
+    ensures early { All (λ w. IfErr w.result (MayEndEarly D.may_fail
         (λ r. MayBeRefused (λ n. G.may_refuse task.now.gate.now n r) (length workers.old))
         (fill_count task.now.shared.now.survey))) workers.new }
 {
@@ -217,12 +254,13 @@ where
         requires { (number < vec_len shared.now.thieves) × (number < 2 ^ 32)
             × D.serves shared.now.desk worker.old.seat }
         ensures { D.serves shared.entry.now.desk worker.new.seat
-            × IfErr worker.new.result (MayHalt D.may_fail (G.may_refuse gate.entry.now number) (fill_count shared.entry.now.survey)) }
+            × (D.tells → EndsTidy (D.moves shared.entry.now.desk) (fill_count shared.entry.now.survey) worker.new.result (D.caller worker.old.seat) (D.caller worker.new.seat))
+            × IfErr worker.new.result (MayEndEarly D.may_fail (G.may_refuse gate.entry.now number) (fill_count shared.entry.now.survey)) }
     {
         start.pass(wait);
         let own = FillTask { shared, gate, wait };
         worker.result = own.fill_until_settled(number as u32, worker);
-        if let Err(Halt::Failed(_)) = worker.result {
+        if let Err(End::Failed(_)) = worker.result {
             shared.stop.store(true, Ordering::SeqCst);
         }
     };

@@ -1,8 +1,10 @@
 //! The workers of a collection before they begin, and their queues.
-ghost use Rattle.std.specs.Prelude.{◌≡◌, ◌<◌, ◌≤◌, [], map, vec_len, IfOk};
+ghost use Rattle.std.specs.Prelude.{◌≡◌, ◌<◌, ◌≤◌, [], All, map, vec_len, IfOk, None, Err};
 ghost use Rattle.std.specs.Vec.{vec_capacity};
+ghost use Rattle.collector.specs.declared.workers.end.End.TheVariants.{Stopped};
 
-use super::worker::{Halt, Worker};
+use super::end::End;
+use super::worker::Worker;
 use ready_queues::{Ready, Thief};
 use std::alloc::{AllocError, Global};
 use summary::Plan;
@@ -19,6 +21,7 @@ pub(crate) fn workers_of<S: Drop>(
     seats: Vec<S>,
 ) -> Result<(Vec<Worker<S>>, Vec<Thief>, Vec<S>), AllocError>
     ensures seats { IfOk result (λ made. map (λ w. w.seat) made.0.items ≡ seats.items) }
+    ensures idle { IfOk result (λ made. All (λ w. w.result ≡ Err (Stopped None)) made.0.items) }
     ensures handles { IfOk result (λ made. vec_len made.1 ≡ vec_len made.0) }
     ensures empty { IfOk result (λ made. made.2.items ≡ []) }
     ensures room { IfOk result (λ made. vec_len made.0 ≤ vec_capacity made.2) }
@@ -33,7 +36,8 @@ pub(crate) fn workers_of<S: Drop>(
         workers.push(Worker {
             seat,
             ready,
-            result: Err(Halt::Stopped),
+            lowest: 0,
+            result: Err(End::Stopped(None)),
         })?;
     }
     Ok((workers, thieves, emptied))

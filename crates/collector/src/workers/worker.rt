@@ -1,7 +1,7 @@
 ghost use Rattle.std.specs.Prelude.{◌≡◌};
 ghost use Rattle.collector.specs.Halts.{met_fault};
-ghost use Rattle.collector.specs.declared.workers.worker.Halt.TheVariants.{Failed};
 
+use super::end::End;
 use heap_image::Fault;
 use ready_queues::Ready;
 
@@ -11,8 +11,10 @@ pub(crate) struct Worker<S> {
     pub(crate) seat: S,
     /// The regions that it has found ready.
     pub(crate) ready: Ready,
+    /// It has seen all regions to fill below this one filled.
+    pub(crate) lowest: u32,
     /// The result of the worker, or of its last call if it works by calls: its own fault, or stopped by another's.
-    pub(crate) result: Result<(), Halt>,
+    pub(crate) result: Result<(), End>,
 }
 
 impl<S> Worker<S> {
@@ -21,26 +23,15 @@ impl<S> Worker<S> {
     pub(crate) fn fault(&self) -> Option<Fault>
         ensures { result ≡ met_fault self.now.result }
     {
-        match self.result {
-            Err(Halt::Failed(fault)) => Some(fault),
-            Ok(()) | Err(Halt::Stopped) => None,
+        match &self.result {
+            Err(End::Failed(fault)) => Some(*fault),
+            Ok(()) | Err(End::Stopped(_)) => None,
         }
     }
-}
-
-/// Why a worker ends before all regions to fill are settled.
-#[derive(Debug, Clone, Copy, PartialEq, Eq)]
-pub enum Halt {
-    /// Another worker has met a fault.
-    Stopped,
-    /// This worker has met a fault.
-    Failed(Fault),
-}
-
-impl From<Fault> for Halt {
-    ghost from_gives = { λ fault halt. halt ≡ Failed fault };
-
-    fn from(fault: Fault) -> Halt {
-        Halt::Failed(fault)
+    /// The seat of this worker, which is no more.
+    pub(crate) fn into_seat(self) -> S
+        ensures { result ≡ self.seat }
+    {
+        self.seat
     }
 }

@@ -17,7 +17,10 @@ use Rattle.claim_board.proofs.pass.Pass.TheSendSync as pass
 use Rattle.region_cells.proofs.cells.Cells.TheSendSync as cells
 use Rattle.ready_queues.specs.contracts.ready.Thief as Thief
 use Rattle.ready_queues.proofs.ready.Thief.TheSendSync as thief
-use Rattle.collector.proofs.workers.worker.Worker.TheSendSync as worker
+use Rattle.ready_queues.proofs.ready.Ready.TheSendSync as ready
+use Rattle.collector.specs.contracts.workers.held_ticket.HeldTicket as HeldTicket
+use Rattle.collector.specs.contracts.workers.end.End as End
+use Rattle.collector.specs.contracts.workers.worker.Worker as Worker
 use Rattle.collector.specs.contracts.session.Session as Session
 use Rattle.collector.specs.contracts.session.share.Share as Share
 use Rattle.collector.specs.contracts.workers.shared.Shared as Shared
@@ -64,10 +67,22 @@ session_sync =
 session_shared : IsSend (Arc.the_row Session.the_row Heap.the_row ghosts)
 session_shared = heap.Arc-send Session.the_row session_send session_sync
 
+held_send : IsSend HeldTicket.the_row
+held_send = search (crosses, sendable) depth 60 fits 20000
+
+end_send : IsSend End.the_row
+end_send = search (crosses, sendable, held_send) depth 60 fits 20000
+
+worker_send : IsSend (Worker.the_field Pass.the_row).row
+worker_send =
+    let T = Worker.the_type Pass.the_row in
+    let all : AllSend (declared.fields T) = (pass.the_send, (ready.the_send, (search (crosses, sendable), (search (crosses, sendable, end_send) depth 60 fits 20000, tt)))) in
+    struct_send (declared.shape T) all
+
 share_send : IsSend (Share.the_field).row
 share_send =
     let T = Share.the_type in
-    let all : AllSend (declared.fields T) = (session_shared, (worker.the_field_send Pass.the_row pass.the_send, (search sendable, tt))) in
+    let all : AllSend (declared.fields T) = (session_shared, (worker_send, (search sendable, tt))) in
     struct_send (declared.shape T) all
 
 pub part_send : IsSend Part.the_row

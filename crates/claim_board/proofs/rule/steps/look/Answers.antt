@@ -4,19 +4,24 @@ use Rattle.atomic_table.specs.Table.{step}
 use Rattle.scheduler.specs.declared.event.Event.TheVariants.{Look}
 use Rattle.scheduler.specs.MoveTable.{region_count}
 use Rattle.claim_board.specs.Rule.{look_reply}
+use Rattle.claim_board.specs.Slots.{slots, first_of_slot, moved_of}
 use Rattle.claim_board.specs.Views.{worker_of, mine_of}
-use Rattle.claim_board.proofs.Lemmas.Effects.{allowed, looks}
+use Rattle.claim_board.proofs.Lemmas.Effects.{looks}
+use Rattle.claim_board.proofs.Lemmas.Plans.{allowed, look_plan}
 use Rattle.claim_board.proofs.rule.steps.look.Goals as goal
 
 pub load-requires : goal.load-requires
 load-requires g c =
     let a = c.requires.about in
+    let e = c.requires.key in
     let k = c.args.words.now.key in
     let t = c.args.words.now.table_id in
     let me = c.args.seat.now.me in
+    let w = worker_of me.0 in
     let below : c.args.region < suc (region_count k.moves) = (let z = c.requires.region in omega arith) in (
       c.requires.seat,
       (let z = c.requires.size in let y = c.requires.region in omega arith),
-      rw (a.0, a.1, a.2, a.3) (allowed k t.slots c.args.seat.now.id (c.args.region) me (Look c.args.region) look_reply (λ n. n) (step t.slots (c.args.region) 0 0 none) below c.requires.pass
-          (looks c.what_legal_histories_keep.ensures c.how_counts_go_down.ensures k.moves k.workers (worker_of me.0) c.args.region (mine_of me.0) c.requires.region)),
+      rw (e.0, e.1, a.0, a.1) (allowed k t.slots c.args.seat.now.id c.args.region me (Look c.args.region) look_reply (λ n. n) (step t.slots c.args.region 0 0 none) below c.requires.pass
+          (looks c.what_legal_histories_keep.ensures c.how_counts_go_down.ensures k.moves k.workers w c.args.region (mine_of me.0) c.requires.region)
+          (look_plan k.moves (slots k) (first_of_slot k) (moved_of k) k.workers w c.args.region me.1)),
     )

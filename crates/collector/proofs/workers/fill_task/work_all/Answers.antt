@@ -1,6 +1,6 @@
 use denote.Param.Send.{sendable}
 use Rattle.std.proofs.Crossing.{crosses}
-use Rattle.collector.proofs.Lemmas.Crossing.{shared_sync}
+use Rattle.collector.proofs.Lemmas.Crossing.{shared_sync, worker_send}
 use Rattle.collector.proofs.workers.fill_task.work_all.Goals as goal
 
 pub for_each_mut-requires-sync-F : goal.for_each_mut-requires-sync-F
@@ -9,3 +9,8 @@ for_each_mut-requires-sync-F g c =
     let gate = c.type_bounds.sync-G in
     let wait = c.type_bounds.sync-W in
     search (crosses, sendable, shared_sync) depth 60 fits 20000
+
+pub for_each_mut-requires-send-T : goal.for_each_mut-requires-send-T
+for_each_mut-requires-send-T g c κs within =
+    let seat = c.type_bounds.send-D-Seat in
+    search (crosses, sendable, worker_send) depth 60 fits 20000

@@ -1,0 +1,16 @@
+//! `RegionBoard`: a board whose slots keep the regions and the rights to read them.
+
+mod calls;
+mod finishing;
+mod gather;
+pub(crate) mod holding;
+pub(crate) mod laws;
+mod listing;
+pub(crate) mod making;
+pub(crate) mod places;
+pub(crate) mod region_board;
+pub(crate) mod region_ticket;
+mod seat;
+mod sharing;
+mod uniting;
+pub(crate) mod whole;

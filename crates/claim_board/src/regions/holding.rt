@@ -1,0 +1,15 @@
+use super::whole::Whole;
+use raw_region::Region;
+use read_shares::{Deed, ReadShare};
+use std::alloc::Global;
+
+/// What a slot holds.
+#[derive(Drop)]
+pub enum Holding {
+    /// The right by which a destination reads its source.
+    Share(ReadShare<Region>),
+    /// A region with its original words: the deed, and the parts that nobody reads with.
+    Original(Deed<Region, Global>, ReadShare<Region>),
+    /// A region with its moved words.
+    Moved(Whole),
+}

@@ -1,0 +1,4 @@
+pub mod Deed
+pub mod Fraction
+pub mod Parts
+pub mod ReadShare
