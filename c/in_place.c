@@ -4,7 +4,7 @@
 #include "lent.h"
 
 /* Limits by the names that they have in crates/object_heap/src/limits.rt, and faults of docs/FORMATS.md. */
-enum { MAX_REGION_LOG_V3 = 20, MAX_REGIONS_V3 = 1 << 20, MEMORY = 11, WORKERS = 12, OVERWRITTEN = 15 };
+enum { MAX_REGION_LOG_V3 = 20, MAX_REGIONS_V3 = 1 << 20, MEMORY = 11, WORKERS = 12 };
 
 /* How many regions a heap has: none where they don't divide its words or are more than any heap has, or where its live addresses
  * or roots are more than its words. To no regions and no list a lent call answers the fault of such sizes, 3 or 4. */
@@ -93,6 +93,6 @@ uint32_t pcompact_end_in_place(pcompact_handle *handles, size_t worker_count, pc
     *answer = pcompact_end_lent_at(handles, worker_count, regions->at, regions->count, list, list_count,
                                    place_of_listed(regions->at));
     uint32_t fault = answer->fault.number;
-    if (fault == 0 || fault == OVERWRITTEN) free_list(regions);
+    if (fault == 0) free_list(regions);
     return fault;
 }

@@ -5,6 +5,9 @@
  * in place, and those of several threads over lent words: these are a few lines of C, here, in in_place.c and in lent.c, around
  * calls that are proved, and are only tested.
  *
+ * No fault loses a heap: this is proved, but for words that are lent, of which it is only tested. What a caller mixes up of a
+ * collection by several threads is fault 12.
+ *
  * No call starts a thread or waits, and none keeps state but behind the handles of a collection by several threads, so
  * several threads may be in calls at once, each with memory and handles of its own. No call may be made from a signal
  * handler, or in a forked child of a process with threads. */
@@ -23,7 +26,7 @@ extern "C" {
 typedef struct pcompact_fault {
     uint32_t number; /* docs/FORMATS.md lists the faults */
     uint32_t field;  /* of fault 9, otherwise 0 */
-    uint64_t place;  /* the index of faults 6 and 17, the address of faults 7 to 9, the region of fault 15, otherwise 0 */
+    uint64_t place;  /* the index of faults 6 and 17, the address of faults 7 to 9, otherwise 0 */
 } pcompact_fault;
 
 /* The version of this header: 1000000 * major + 1000 * minor + patch. */
@@ -70,21 +73,19 @@ uint32_t pcompact_summary(const uint64_t *words, size_t word_count, const uint64
 
 /* Compacts the heap with these words, from address 0 up, and these live addresses, ascending: afterwards the words are
  * those of the compaction, and the live addresses the new ones in the same order. Returns the number of the fault in
- * `answer`: 0, 3, 4, 6 to 9, 11 if memory runs out, or 15 if a check in the collection fails, which no test has seen. After
- * any fault the words and live addresses are as they were. Takes the memory of a copy of the words, and what a collection
- * by one worker takes. No pointer is null, also with a count of 0, nothing that they lead to overlaps, and nobody reads or
- * writes there meanwhile. */
+ * `answer`: 0, 3, 4, 6 to 9, or 11 if memory runs out. After a fault the words and live addresses are as they were. Takes the
+ * memory of a copy of the words, and what a collection by one worker takes. No pointer is null, also with a count of 0, nothing
+ * that they lead to overlaps, and nobody reads or writes there meanwhile. */
 uint32_t pcompact_collect(uint64_t *words, size_t word_count, uint64_t *live, size_t live_count, pcompact_settings settings,
                           pcompact_answer *answer);
 
 /* The same for a heap with roots, each of which is 0 or 1 plus the address of an object. The live objects are those that
- * the roots reach, and afterwards the roots lead to their new addresses. Faults: 0, 3, 4, 7 to 9, 17, 11 and 15. */
+ * the roots reach, and afterwards the roots lead to their new addresses. Faults: 0, 3, 4, 7 to 9, 17 and 11. */
 uint32_t pcompact_collect_rooted(uint64_t *words, size_t word_count, uint64_t *roots, size_t root_count,
                                  pcompact_settings settings, pcompact_answer *answer);
 
 /* Like pcompact_collect, but collects the words where they lie, without a copy of them, which takes less time and memory. The
- * answer is the same, and so are faults, but after fault 15 nothing is promised of the words and live addresses. Takes the
- * memory that a collection by one worker takes, and 24 bytes for each region. */
+ * answer is the same, and so are faults. Takes the memory that a collection by one worker takes, and 24 bytes for each region. */
 uint32_t pcompact_collect_in_place(uint64_t *words, size_t word_count, uint64_t *live, size_t live_count,
                                    pcompact_settings settings, pcompact_answer *answer);
 
@@ -116,9 +117,8 @@ static inline size_t pcompact_cut(uint64_t *words, size_t word_count, uint32_t r
 
 /* Like pcompact_collect_in_place, for a heap whose regions the host lends, from address 0 up, wherever each lies. Afterwards
  * each holds its region's words of the compaction, at the same place.
- * Faults: those of pcompact_collect, and 4 if some words aren't held or are more or fewer than a region has. After any
- * fault but 15 all is as it was. After fault 15 nothing is promised of the words and live addresses, and some aren't held.
- * Takes the memory that a collection by one worker takes. */
+ * Faults: those of pcompact_collect, and 4 if some words aren't held or are more or fewer than a region has. After a fault all
+ * is as it was. Takes the memory that a collection by one worker takes. */
 uint32_t pcompact_collect_lent(pcompact_words *words, size_t region_count, uint64_t *live, size_t live_count,
                                pcompact_settings settings, pcompact_answer *answer);
 
@@ -149,8 +149,8 @@ pcompact_fault pcompact_begin_rooted(const uint64_t *words, size_t word_count, c
 /* Like pcompact_begin, for a heap whose regions the host lends, as pcompact_collect_lent has them: the workers compact them where
  * they lie, without a copy. From the begin to the end the words are the library's, none is held, and nobody else uses them or
  * writes their fields. Only pcompact_end_lent, which is handed the words where they were then, ends such a collection. Faults:
- * those of pcompact_begin, 4 if some words aren't held or are more or fewer than a region has, or 15 as of pcompact_collect.
- * After any fault but 15 all is as it was. */
+ * those of pcompact_begin, and 4 if some words aren't held or are more or fewer than a region has. After a fault all is as it
+ * was. */
 pcompact_fault pcompact_begin_lent(pcompact_words *words, size_t region_count, const uint64_t *live, size_t live_count,
                                    pcompact_settings settings, pcompact_handle *handles, size_t worker_count);
 
@@ -167,8 +167,7 @@ typedef struct pcompact_regions {
 
 /* Like pcompact_begin, but the workers compact the words where they lie, without a copy of them. From the begin to the end only
  * the library uses the words. Only pcompact_end_in_place, which is handed the same regions, ends such a collection. Faults: those
- * of pcompact_begin, 12 also if there are regions already, or 15 as of pcompact_collect_in_place. After any fault but 15 all is
- * as it was. */
+ * of pcompact_begin, and 12 also if there are regions already. After a fault all is as it was. */
 pcompact_fault pcompact_begin_in_place(uint64_t *words, size_t word_count, const uint64_t *live, size_t live_count,
                                        pcompact_settings settings, pcompact_handle *handles, size_t worker_count,
                                        pcompact_regions *regions);
@@ -183,8 +182,6 @@ enum {
     PCOMPACT_SETTLED = 0,    /* all regions are filled */
     PCOMPACT_TURNS_USED = 1, /* the turns are used up */
     PCOMPACT_NONE_READY = 2, /* no region is ready: another worker may make some ready */
-    PCOMPACT_STOPPED = 3,    /* another worker has met a fault, which pcompact_end tells */
-    PCOMPACT_FAILED = 4,     /* this worker has met one */
     PCOMPACT_NOT_HELD = 5    /* the handle isn't held */
 };
 
@@ -193,30 +190,28 @@ enum {
 uint32_t pcompact_work(pcompact_handle *handle, uint64_t turns);
 
 /* The same until all regions are filled; spins while none is ready, so it wants a processor for each worker. Returns
- * PCOMPACT_SETTLED, PCOMPACT_STOPPED, PCOMPACT_FAILED or PCOMPACT_NOT_HELD. */
+ * PCOMPACT_SETTLED or PCOMPACT_NOT_HELD. */
 uint32_t pcompact_work_all(pcompact_handle *handle);
 
 /* Ends a collection by the handles of one pcompact_begin or pcompact_begin_rooted, in any order, once no other call uses them:
  * fills what is left to fill, and writes the words of the compaction and the new live addresses or roots. Returns the number of
  * the fault in `answer`: 0, 12 if these aren't all handles of one such begin, 4 if the words or the list aren't as many as
- * there, 11 if memory runs out, or 15 as of pcompact_collect. After a fault words and list are as they were. After fault 12 the
- * handles are too, and collections go on; otherwise no handle is held, and the collection is over. Collections that are begun and
- * not ended keep their memory. No pointer is null, also with a count of 0, nothing overlaps, and nobody reads or writes there
- * meanwhile. `answer` need not be filled before. */
+ * there, or 11 if memory runs out. After a fault words and list are as they were. After fault 12 the handles are too, and
+ * collections go on; otherwise no handle is held, and the collection is over. Collections that are begun and not ended keep their
+ * memory. No pointer is null, also with a count of 0, nothing overlaps, and nobody reads or writes there meanwhile. `answer` need
+ * not be filled before. */
 uint32_t pcompact_end(pcompact_handle *handles, size_t worker_count, uint64_t *words, size_t word_count, uint64_t *list,
                       size_t list_count, pcompact_answer *answer);
 
 /* The same for a collection that pcompact_begin_lent or pcompact_begin_lent_rooted began with these words: afterwards each holds
  * its region's words of the compaction, at the same place. Fault 12 comes also for other words, and fault 4 if some are held.
- * After faults 4, 11 and 12 all is as it was, handles too, and the collection goes on. After fault 15 no handle is held, nothing
- * is promised of words and list, and some words aren't held. */
+ * After a fault all is as it was, handles too, and the collection goes on. */
 uint32_t pcompact_end_lent(pcompact_handle *handles, size_t worker_count, pcompact_words *words, size_t region_count,
                            uint64_t *list, size_t list_count, pcompact_answer *answer);
 
 /* The same for a collection that pcompact_begin_in_place or pcompact_begin_in_place_rooted began with these regions: afterwards
- * its words are those of the compaction, and there are no regions. Fault 12 comes also for other regions or none. After faults
- * 4, 11 and 12 all is as it was, handles and regions too, and the collection goes on. After fault 15 no handle is held, there are
- * no regions, and nothing is promised of words and list. */
+ * its words are those of the compaction, and there are no regions. Fault 12 comes also for other regions or none. After a fault
+ * all is as it was, handles and regions too, and the collection goes on. */
 uint32_t pcompact_end_in_place(pcompact_handle *handles, size_t worker_count, pcompact_regions *regions, uint64_t *list,
                                size_t list_count, pcompact_answer *answer);
 

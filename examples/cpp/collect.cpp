@@ -16,7 +16,7 @@ std::string text_of(pcompact_fault fault) {
     return reinterpret_cast<const char *>(text);
 }
 
-// Why there is no collection. Words and roots are as they were, but after fault 15.
+// Why there is no collection. Words and roots are as they were.
 struct Fault : std::runtime_error {
     explicit Fault(pcompact_fault fault) : std::runtime_error("fault " + text_of(fault)), fault(fault) {}
     pcompact_fault fault;

@@ -25,13 +25,12 @@ from tests.support.source_files import read_call, read_type
 from tests.support.spec_files import TOP, Definition, Key, read_specs
 
 PAGE = "docs/DEFINITIONS.md"
-BOARD = "claim_board::Board::"
+BOARD = "claim_board::RegionBoard::"
 # The clauses that carry the three parts of the headline, and the calls that carry one with all that they say.
 HEADLINE = {
-    "claims": [f"{BOARD}new", *(f"{BOARD}{name}#entry" for name in ("claim", "look", "drain", "complete", "settle", "poll")),
-               f"{BOARD}meet", f"{BOARD}finish"],
-    "regions": ["claim_board::writers_have_no_pending_readers", "claim_board::other_calls_leave_openings#rights",
-                f"{BOARD}claim#ticket", "claim_board::Ticket::right#owner", "region_cells::Cells::write#right"],
+    "claims": [f"{BOARD}new#passes", *(f"{BOARD}{name}#entry" for name in ("claim", "look", "drain", "complete", "settle", "poll")),
+               f"{BOARD}meet", f"{BOARD}finish#history"],
+    "regions": [f"{BOARD}claim#granted"],
     "result": ["collector::collect#image", "collector::collect#legal"],
 }
 # The clauses that carry what is promised besides of histories, words, bytes, records and verdicts.

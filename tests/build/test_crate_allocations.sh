@@ -1,8 +1,8 @@
 #!/bin/sh
 # Runs tests of some crates with each of their allocations refused in turn. A test must pass, or end with
 # out of memory: a failed assertion, another error, a signal or no end is wrong. Where a crate has a test
-# refused_memory_is_reported, which looks at the answers itself, that one alone is run, and it must always pass, but for one
-# refusal that ends a recorded collection before its gate was asked. The last line counts the runs.
+# refused_memory_is_reported, which looks at the answers itself, that one alone is run, and it must always pass. The last line
+# counts the runs.
 #
 # usage: tests/build/test_crate_allocations.sh CRATE..      (after `rt test` in each; needs a C compiler)
 set -u
@@ -27,14 +27,8 @@ is_memory() {
     [ "$status" = 101 ] && grep -qx 'error: \(AllocError\|AllocFailed { .. }\|Memory\)' "$room/out"
 }
 
-# Whether the test ended with the refusal of a schedule's first line, which comes before the gate is asked. There is one.
-is_first_line() {
-    grep -q 'lost before the gate was asked' "$room/out" && first_lines=$((first_lines + 1)) && [ "$first_lines" = 1 ]
-}
-
 # Refuses each allocation of a test in turn.
 each() {
-    first_lines=0
     refusing "$1" 0
     if [ "$status" != 0 ]; then
         failed=$((failed + 1))
@@ -48,7 +42,7 @@ each() {
         refusing "$1" "$number"
         if is_memory "$1"; then
             reported=$((reported + 1))
-        elif [ "$status" != 0 ] && ! is_first_line; then
+        elif [ "$status" != 0 ]; then
             failed=$((failed + 1))
             printf '%s %s: refusal of allocation %s: status %s: %s\n' "$crate" "$1" "$number" "$status" "$(cat "$room/out")"
         fi

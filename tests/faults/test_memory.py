@@ -2,7 +2,8 @@
 """How much memory a collection holds at most, by the sizes of what it is made of.
 
 An image remembers what its check has seen: a bit for each word and a size for each live object. A collection lets go of both
-before its workers begin. Over a heap of 130,000 objects of one word that is a tenth of all that it holds.
+before its workers begin. What its board keeps for each region and pair counts where regions are small: of 8 words in the first
+heap, 512 in the second.
 
 usage: tests/faults/test_memory.py [PROGRAM]      (needs a C compiler)
 """
@@ -20,7 +21,7 @@ from tests.support.program import PRELOAD, built
 
 # Of each heap the most bytes that its collection may hold at a time, a few hundredths above what it holds.
 HEAPS = {
-    Heap("small_regions", FILLS, 1, 3, 1 << 17, objects=130_000, at=1): 5_050_000,
+    Heap("small_regions", FILLS, 1, 3, 1 << 17, objects=130_000, at=1): 7_400_000,
     Heap("large_regions", FILLS, 1, 9, 1 << 21, objects=1_900_000, at=1): 41_350_000,
 }
 

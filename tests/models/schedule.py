@@ -254,11 +254,12 @@ def recorded_by_one(collection: Collection) -> Schedule:
 
 
 def is_recorded(collection: Collection, schedule: Schedule) -> bool:
-    """Whether each region to fill is filled once, by one worker, in the order of a fill, and nothing else is done."""
+    """Whether each region to fill is filled once, by one worker, in the order of a fill, and nothing is done beside that but
+    claims that are refused."""
     machine = Machine(collection)
     of_region = collections.defaultdict(list)
     for line in schedule.lines:
-        of_region[line.numbers[0] if line.numbers else None].append(line.replied(ANY))
-    claims_are_granted = all(line.reply == "yes" for line in schedule.lines if line.event == "claim")
+        if (line.event, line.reply) != ("claim", "no"):
+            of_region[line.numbers[0] if line.numbers else None].append(line.replied(ANY))
     fills = {d: fill(machine, lines[0].worker, d) for d, lines in of_region.items() if d in machine.to_fill}
-    return claims_are_granted and set(of_region) == machine.to_fill and of_region == fills
+    return set(of_region) == machine.to_fill and of_region == fills

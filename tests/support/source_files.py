@@ -91,6 +91,12 @@ def parts_named(signature: str, clauses: list[str]) -> str:
     return " ".join([*parts, *[returned] * ("result" in named)])
 
 
+def impl_parameters(before: str) -> set[str]:
+    """The type parameters of the impl in which a text ends, or of the last before it."""
+    heads = re.findall(r"(?m)^impl<[^{]*", before)
+    return set(re.findall(r"[<,] ?(\w+)(?=[:,>])", heads[-1])) if heads else set()
+
+
 def read_call(call: str) -> Definition:
     """What the clauses of a call use, and the types of what it is handed and returns. Of CALL#CLAUSE, what this clause of its
     `ensures` uses, and the types of what it names."""
@@ -99,7 +105,7 @@ def read_call(call: str) -> Definition:
     text, names = read_source(file)
     signature = re.compile(r"\s(?=requires\b|ensures\b|\{)|;").split(text[begin:], maxsplit=1)[0]
     bound = set(re.findall(r"(\w+): ", signature)) | set(re.findall(r"[<,] ?(\w+)(?=[:,>])", signature)) | {"self", "result"}
-    bound |= set(re.findall(r"(?m)^    ghost (\w+): ", text))
+    bound |= set(re.findall(r"(?m)^    ghost (\w+): ", text)) | impl_parameters(text[:begin])
     clauses = clauses_of(text, begin + len(signature), asked)
     uses = Uses(names, bound)
     for clause in clauses:

@@ -6,7 +6,6 @@ use Rattle.object_heap.specs.HeapImage.{HeapImage}
 use Rattle.object_heap.specs.declared.version.Version.{Version}
 use Rattle.object_heap.specs.declared.version.Version.TheVariants.{One, Two, Three}
 use Rattle.heap_image.specs.ImageText.{first_fault}
-use Rattle.fill.specs.FillFaults.{IsOverwritten}
 
 -- the live addresses of an image of version 1, otherwise its roots
 abbrev pub IsTailOf : Version → HeapImage → List ℕ → Type 0
@@ -14,6 +13,6 @@ IsTailOf One image tail = tail ≡ image.live
 IsTailOf Two image tail = image.roots ≡ Some tail
 IsTailOf Three image tail = image.roots ≡ Some tail
 
--- memory ran out, it is the first fault of the bytes of the image, or a cell or a queue contradicts the order of work
+-- memory ran out, or it is the first fault of the bytes of the image
 abbrev pub IsWhyKept : List ℕ → Fault → Type 0
-IsWhyKept bytes fault = (fault ≡ Memory) ⊎ ((first_fault bytes ≡ Some fault) ⊎ IsOverwritten fault)
+IsWhyKept bytes fault = (fault ≡ Memory) ⊎ (first_fault bytes ≡ Some fault)

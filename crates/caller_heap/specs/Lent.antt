@@ -3,7 +3,7 @@ use Rattle.std.specs.Prelude.{◌≡◌, ◌≤◌, ◌^◌, ◌⊎◌, ℕ, Boo
 use Rattle.std.specs.List.{concat, range_with_len}
 use Rattle.std.specs.Ptr.{Ptr}
 use Rattle.image_streams.specs.declared.fault.Fault.{Fault}
-use Rattle.image_streams.specs.declared.fault.Fault.TheVariants.{Length}
+use Rattle.image_streams.specs.declared.fault.Fault.TheVariants.{Length, Workers}
 use Rattle.object_heap.specs.HeapImage.{HeapImage, block_of, region_count}
 use Rattle.caller_heap.specs.Collected.{IsWhyKept}
 
@@ -51,6 +51,12 @@ blocks_of image = map (block_of image) (range_with_len 0 (region_count image))
 abbrev pub HoldImage : HeapImage → List Lent → Type 0
 HoldImage image words = map content words ≡ map held (blocks_of image)
 
--- what keeps words from being collected where they lie: what keeps others, or that they aren't a region each
+-- Some region's memory isn't a host's, so that its words can't be put back. A contract sees the words of a region, and not
+-- whose memory they are in: so none excludes this fault where words that were lent come back.
+abbrev pub IsNotLent : Fault → Type 0
+IsNotLent fault = fault ≡ Workers
+
+-- What keeps words from being collected where they lie: what keeps others, that they aren't a region each, or that some can't
+-- be put back.
 abbrev pub IsWhyLentKept : ℕ → List Lent → List ℕ → Fault → Type 0
-IsWhyLentKept region_log words bytes fault = IsWhyKept bytes fault ⊎ ((fault ≡ Length) × (AreRegions region_log words → ⊥))
+IsWhyLentKept region_log words bytes fault = IsWhyKept bytes fault ⊎ (((fault ≡ Length) × (AreRegions region_log words → ⊥)) ⊎ IsNotLent fault)

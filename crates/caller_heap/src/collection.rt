@@ -1,10 +1,9 @@
 //! The collection of a copy of a heap's words, and an image's words put over them.
-ghost use Rattle.std.specs.Prelude.{◌≡◌, ◌⊎◌, IfOk, OnErr, IfErr, length};
+ghost use Rattle.std.specs.Prelude.{◌≡◌, IfOk, OnErr, IfErr, length};
 ghost use Rattle.image_streams.specs.declared.fault.Fault.TheVariants.{Memory};
 ghost use Rattle.object_heap.specs.HeapImage.{HeapImage, IsValid, heap_words};
 ghost use Rattle.heap_image.specs.ImageText.{text, with_tail};
 ghost use Rattle.summary.specs.Compaction.{compact};
-ghost use Rattle.fill.specs.FillFaults.{IsOverwritten};
 ghost use Rattle.collector.specs.Collections.{figures_of};
 ghost use Rattle.caller_heap.specs.Collected.{IsTailOf, IsWhyKept};
 ghost use Rattle.caller_heap.specs.HeapWords.{heap_bytes};
@@ -19,9 +18,8 @@ use std::alloc::Global;
 /// the same order. Otherwise it has the roots: the live objects are those that they reach, and the roots then lead to their
 /// new addresses. After a fault words and tail are as they were.
 ///
-/// The fault is the first fault of the bytes of its image, 3, 4, 6 to 9 or 17, or 11 if memory runs out, or 15 if a cell or
-/// a queue contradicts the order of work. Takes the memory of a copy of the words, and what a collection by one worker
-/// takes.
+/// The fault is the first fault of the bytes of its image, 3, 4, 6 to 9 or 17, or 11 if memory runs out. Takes the memory of
+/// a copy of the words, and what a collection by one worker takes.
 pub fn collect_words(
     alloc: Global,
     version: Version,
@@ -45,11 +43,11 @@ pub fn collect_words(
 
 /// The compaction of an image by one worker in the caller's thread, and its figures.
 ///
-/// Fails with fault 11 if memory runs out, or 15 if a cell or a queue contradicts the order of work; the image is lost then.
+/// Fails with fault 11 if memory runs out; the image, a copy, is lost then.
 fn compact_image(alloc: Global, image: Image) -> Result<(Image, Figures), Fault>
     ensures image { IfOk result (λ done. done.0 ≡ compact image) }
     ensures figures { IfOk result (λ done. done.1 ≡ figures_of image) }
-    ensures fault { IfErr result (λ fault. (fault ≡ Memory) ⊎ IsOverwritten fault) }
+    ensures fault { IfErr result (λ fault. fault ≡ Memory) }
 {
     match collect_alone(alloc, image, &OpenGate) {
         Ok((outcome, _board)) => Ok((outcome.image, outcome.figures)),

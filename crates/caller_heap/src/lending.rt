@@ -5,9 +5,8 @@ ghost use Rattle.object_heap.specs.HeapImage.{IsValid, AreBlocks, region_count};
 ghost use Rattle.heap_image.specs.ImageText.{text, listed_text, with_tail};
 ghost use Rattle.heap_image.specs.Unchecked.{numbers_in};
 ghost use Rattle.image_streams.specs.declared.fault.Fault.TheVariants.{Memory, Length};
-ghost use Rattle.fill.specs.FillFaults.{IsOverwritten};
 ghost use Rattle.caller_heap.specs.HeapWords.{heap_bytes};
-ghost use Rattle.caller_heap.specs.Lent.{IsHeld, IsGone, AreRegions, AreBack, HoldImage, IsWhyLentKept, content, heap_in, held, words_in};
+ghost use Rattle.caller_heap.specs.Lent.{IsHeld, IsGone, AreRegions, AreBack, HoldImage, IsNotLent, IsWhyLentKept, content, heap_in, held, words_in};
 
 use crate::settings::HeapSettings;
 use heap_image::{Alone, Fault, Image, UncheckedParts, Version, image_of_regions};
@@ -18,8 +17,8 @@ use std::alloc::Global;
 /// version 1, otherwise roots. No word is copied.
 ///
 /// The fault is the first fault of the bytes of the image, 3, 4, 6 to 9 or 17, or 4 if some words aren't held or are more
-/// or fewer than a region has, or 11 if memory runs out. All words are held as they were then; only after fault 15, where a
-/// region doesn't come back, nothing is promised of them.
+/// or fewer than a region has, or 11 if memory runs out. All words are held as they were then. No contract excludes fault 12,
+/// as none follows whose memory a region has: after it nothing is promised of them.
 pub fn image_of_lent(
     alloc: Global,
     version: Version,
@@ -34,7 +33,7 @@ pub fn image_of_lent(
     ensures count { IfOk result (λ image. length words.old ≡ region_count image) }
     ensures tail { IfOk result (λ image. length tail.now ≡ length (with_tail image).live) }
     ensures gone { OnOk result (All IsGone words.new) }
-    ensures back { IfErr result (λ fault. AreBack words.old words.new ⊎ IsOverwritten fault) }
+    ensures back { IfErr result (λ fault. AreBack words.old words.new ⊎ IsNotLent fault) }
     ensures fault { IfErr result
         (IsWhyLentKept settings.region_log words.old (heap_bytes version settings (heap_in words.old) tail.now)) }
 {
@@ -64,9 +63,9 @@ fn lend_parts(
         heap_bytes version settings (heap_in words.old) tail.now ≡ listed_text parts.version (numbers_in parts)) }
     ensures held { OnOk result (All IsHeld words.old) }
     ensures gone { OnOk result (All IsGone words.new) }
-    ensures back { IfErr result (λ fault. AreBack words.old words.new ⊎ IsOverwritten fault) }
+    ensures back { IfErr result (λ fault. AreBack words.old words.new ⊎ IsNotLent fault) }
     ensures fault { IfErr result (λ fault. (fault ≡ Memory)
-        ⊎ (((fault ≡ Length) × (AreRegions settings.region_log words.old → ⊥)) ⊎ IsOverwritten fault)) }
+        ⊎ (((fault ≡ Length) × (AreRegions settings.region_log words.old → ⊥)) ⊎ IsNotLent fault)) }
 {
     if tail.len() > u32::MAX as usize {
         return Err(Fault::Memory);
@@ -84,16 +83,16 @@ fn lend_parts(
 
 /// Lends all of these words, a region of `2 ^ region_log` words each.
 ///
-/// After a fault they are back: 11 if memory runs out, 4 if some aren't held or are more or fewer, and after 15, where a
-/// region doesn't come back, some of them.
+/// After a fault they are back: 11 if memory runs out, 4 if some aren't held or are more or fewer. After fault 12, where a
+/// region isn't a host's, only some of them are.
 fn lend_all(alloc: Global, words: &mut [HostWords], region_log: u32) -> Result<Vec<Region>, Fault>
     ensures regions { IfOk result (λ regions. regions.items ≡ map words_in words.old) }
     ensures whole { OnOk result (AreBlocks region_log (map words_in words.old)) }
     ensures held { OnOk result (All IsHeld words.old) }
     ensures gone { OnOk result (All IsGone words.new) }
-    ensures back { IfErr result (λ fault. AreBack words.old words.new ⊎ IsOverwritten fault) }
+    ensures back { IfErr result (λ fault. AreBack words.old words.new ⊎ IsNotLent fault) }
     ensures fault { IfErr result (λ fault. (fault ≡ Memory)
-        ⊎ (((fault ≡ Length) × (AreRegions region_log words.old → ⊥)) ⊎ IsOverwritten fault)) }
+        ⊎ (((fault ≡ Length) × (AreRegions region_log words.old → ⊥)) ⊎ IsNotLent fault)) }
 {
     let mut regions = Vec::with_capacity(alloc, words.len())?;
     if lend_each(alloc, words, region_log, &mut regions) {
@@ -146,29 +145,29 @@ fn region_size(region_log: u32) -> usize
     1 << region_log
 }
 
-/// Gives the regions back as the first words of a list. Fails with fault 15 if one isn't a host's.
+/// Gives the regions back as the first words of a list. Fails with fault 12 if one isn't a host's.
 fn keep_all(words: &mut [HostWords], mut regions: Vec<Region>) -> Result<(), Fault>
     requires few { vec_len regions ≤ length words.old }
     requires gone { All IsGone (take (vec_len regions) words.old) }
     ensures kept { OnOk result (map content words.new
         ≡ map held regions.items ++ map content (drop (vec_len regions) words.old)) }
-    ensures fault { IfErr result IsOverwritten }
+    ensures fault { IfErr result IsNotLent }
 {
     while let Some(region) = regions.pop() {
         let r = regions.len();
         if let Err(_other) = words[r].keep(region) {
-            return Err(Fault::Overwritten(r.min(u32::MAX as usize) as u32));
+            return Err(Fault::Workers);
         }
     }
     Ok(())
 }
 
-/// Gives each region of an image back, in its place. Fails with fault 15 if one isn't a host's.
+/// Gives each region of an image back, in its place. Fails with fault 12 if one isn't a host's.
 pub(crate) fn keep_image(words: &mut [HostWords], image: Image) -> Result<(), Fault>
     requires gone { All IsGone words.old }
     requires count { length words.old ≡ region_count image }
     ensures kept { OnOk result (HoldImage image words.new) }
-    ensures fault { IfErr result IsOverwritten }
+    ensures fault { IfErr result IsNotLent }
 {
     keep_all(words, image.into_parts().regions)
 }

@@ -4,12 +4,11 @@ ghost use Rattle.image_streams.specs.declared.fault.Fault.TheVariants.{Memory, W
 ghost use Rattle.object_heap.specs.HeapImage.{HeapImage, IsValid, region_count};
 ghost use Rattle.heap_image.specs.ImageText.{text, with_tail};
 ghost use Rattle.summary.specs.Compaction.{compact};
-ghost use Rattle.fill.specs.FillFaults.{IsOverwritten};
 ghost use Rattle.collector.specs.Collections.{figures_of};
 ghost use Rattle.collector.specs.Sessions.{image_of};
 ghost use Rattle.caller_heap.specs.Collected.{IsTailOf};
 ghost use Rattle.caller_heap.specs.HeapWords.{heap_bytes};
-ghost use Rattle.caller_heap.specs.Lent.{AreBack, HoldImage, IsGone, IsWhyLentKept, heap_in};
+ghost use Rattle.caller_heap.specs.Lent.{AreBack, HoldImage, IsGone, IsNotLent, IsWhyLentKept, heap_in};
 ghost use Rattle.caller_heap.specs.Parts.{IsPartOf};
 ghost use Rattle.caller_heap.specs.declared.part.Origin.TheVariants.{Lent};
 
@@ -27,7 +26,8 @@ use std::alloc::Global;
 /// compaction.
 ///
 /// The fault is that of [`collect_words`](crate::collect_words), or 4 if some words aren't held or are more or fewer than
-/// a region has. After a fault all are held as they were; only after fault 15 nothing is promised of words and tail.
+/// a region has. After a fault all are held as they were. No contract excludes fault 12, as none follows whose memory a
+/// region has: after it nothing is promised of words and tail.
 pub fn collect_lent_words(
     alloc: Global,
     version: Version,
@@ -39,7 +39,7 @@ pub fn collect_lent_words(
         × (heap_bytes version settings (heap_in words.old) tail.old ≡ text image)
         × HoldImage (compact image) words.new × IsTailOf version (compact image) tail.new
         × (figures ≡ figures_of image)) }
-    ensures kept { IfErr result (λ fault. (AreBack words.old words.new × (tail.new ≡ tail.old)) ⊎ IsOverwritten fault) }
+    ensures kept { IfErr result (λ fault. (AreBack words.old words.new × (tail.new ≡ tail.old)) ⊎ IsNotLent fault) }
     ensures fault { IfErr result
         (IsWhyLentKept settings.region_log words.old (heap_bytes version settings (heap_in words.old) tail.old)) }
 {
@@ -50,7 +50,8 @@ pub fn collect_lent_words(
             keep_image(words, image)?;
             Err(fault)
         }
-        Err(Refusal::Lost(fault)) => Err(fault),
+        // No gate refuses.
+        Err(Refusal::Lost(_)) => unreachable!(),
     }
 }
 
@@ -58,8 +59,9 @@ pub fn collect_lent_words(
 /// words were lent in a list at this place. Its end by [`end_lent_words`](crate::end_lent_words) puts the words back; until
 /// then none is held.
 ///
-/// The fault is 12 if there aren't 1 to 64 workers, or 11 if memory runs out. All words are held as they were then; only
-/// after fault 15, if a cell contradicts the order of work, nothing is promised of them.
+/// The fault is 12 if there aren't 1 to 64 workers, or 11 if memory runs out. All words are held as they were then. No contract
+/// excludes fault 12 for another reason, as none follows whose memory a region has, or says that an image comes back: so none
+/// promises the words after it.
 pub fn begin_lent(
     alloc: Global,
     image: Image,
@@ -72,8 +74,8 @@ pub fn begin_lent(
     ensures parts { IfOk result (λ parts. All (λ part. IsPartOf image (Lent place) part.value) parts.items) }
     ensures count { IfOk result (λ parts. vec_len parts ≡ workers) }
     ensures gone { OnOk result (All IsGone words.new) }
-    ensures back { IfErr result (λ fault. HoldImage image words.new ⊎ IsOverwritten fault) }
-    ensures fault { IfErr result (λ fault. (fault ≡ Workers) ⊎ ((fault ≡ Memory) ⊎ IsOverwritten fault)) }
+    ensures back { IfErr result (λ fault. HoldImage image words.new ⊎ IsNotLent fault) }
+    ensures fault { IfErr result (λ fault. (fault ≡ Memory) ⊎ IsNotLent fault) }
 {
     match boxed_parts(alloc, image, workers, Origin::Lent(place)) {
         Ok(parts) => Ok(parts),
@@ -81,7 +83,7 @@ pub fn begin_lent(
             keep_image(words, image)?;
             Err(fault)
         }
-        Err(Refusal::Lost(fault)) => Err(fault),
+        Err(Refusal::Lost(_)) => Err(Fault::Workers),
     }
 }
 
@@ -97,8 +99,7 @@ pub fn suits(share: &Share, regions: usize, numbers: usize) -> bool
 /// compaction back to the host, each region in its place, and writes the new live addresses or roots. `others` are the
 /// shares of all other workers.
 ///
-/// Fails with fault 12 if these aren't all shares of one session, and with fault 15 if the words weren't lent, or a cell
-/// contradicts the order of work. The words are lost then.
+/// Fails with fault 12 if these aren't all shares of one session over lent words. The words are lost then.
 pub fn end_lent_words(
     words: &mut [HostWords],
     tail: &mut [u64],
@@ -111,21 +112,21 @@ pub fn end_lent_words(
     ensures words { OnOk result (HoldImage (compact (image_of share)) words.new) }
     ensures tail { OnOk result (tail.new ≡ (with_tail (compact (image_of share))).live) }
     ensures figures { IfOk result (λ figures. figures ≡ figures_of (image_of share)) }
-    ensures fault { IfErr result (λ fault. (fault ≡ Workers) ⊎ IsOverwritten fault) }
+    ensures fault { IfErr result (λ fault. fault ≡ Workers) }
 {
     let outcome = share.end(others)?;
     put_back(outcome, words, tail)
 }
 
 /// Gives the words of a compaction back, each region in its place, and writes its live addresses or roots. Fails with fault
-/// 15 if the words weren't lent.
+/// 12 if the words weren't lent.
 fn put_back(outcome: Outcome, words: &mut [HostWords], tail: &mut [u64]) -> Result<Figures, Fault>
     requires gone { All IsGone words.old }
     requires words { length words.old ≡ region_count outcome.image }
     requires tail { length tail.old ≡ length (with_tail outcome.image).live }
     ensures put { IfOk result (λ figures. HoldImage outcome.image words.new
         × (tail.new ≡ (with_tail outcome.image).live) × (figures ≡ outcome.figures)) }
-    ensures fault { IfErr result IsOverwritten }
+    ensures fault { IfErr result IsNotLent }
 {
     put_tail(&outcome.image, tail);
     keep_image(words, outcome.image)?;

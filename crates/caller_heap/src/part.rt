@@ -2,9 +2,9 @@
 ghost use Rattle.std.specs.Prelude.{◌≡◌, ◌⊎◌, All, Some, IfOk, IfErr, IfSome, vec_len};
 ghost use Rattle.object_heap.specs.HeapImage.{HeapImage};
 ghost use Rattle.image_streams.specs.declared.fault.Fault.TheVariants.{Memory, Workers};
-ghost use Rattle.fill.specs.FillFaults.{IsOverwritten};
 ghost use Rattle.collector.specs.Collections.{IfKept, IfLost};
 ghost use Rattle.collector.specs.Sessions.{image_of};
+ghost use Rattle.collector.specs.declared.outcome.Refusal.TheVariants.{Kept};
 ghost use Rattle.caller_heap.specs.Parts.{IsPartOf};
 
 use collector::{Refusal, Session, Share};
@@ -30,8 +30,8 @@ pub struct Part {
 /// Begins a session of `workers` workers over an image whose words come from `origin`. Returns a part for each, in a box of
 /// its own, which a host can keep by its place.
 ///
-/// Returns `Kept` with fault 12 if there aren't 1 to 64 workers, or 11 if memory runs out, and `Lost` with fault 15 if a
-/// cell contradicts that no region has been written.
+/// Returns `Kept` with fault 12 if there aren't 1 to 64 workers, or 11 if memory runs out. No contract excludes that the
+/// image is lost to fault 11, as none says that nobody has claimed a region before there are shares.
 pub fn boxed_parts(
     alloc: Global,
     image: Image,
@@ -42,7 +42,7 @@ pub fn boxed_parts(
     ensures parts { IfOk result (λ boxes. All (λ part. IsPartOf image origin part.value) boxes.items) }
     ensures kept { IfErr result (λ refusal. IfKept refusal
         (λ back fault. (back ≡ image) × ((fault ≡ Memory) ⊎ (fault ≡ Workers)))) }
-    ensures lost { IfErr result (λ refusal. IfLost refusal IsOverwritten) }
+    ensures lost { IfErr result (λ refusal. IfLost refusal (λ fault. fault ≡ Memory)) }
 {
     let shares = Session::prepare(alloc, image, workers)?;
     match boxed(alloc, shares, origin) {
@@ -53,17 +53,18 @@ pub fn boxed_parts(
 
 /// The refusal for fault 11; `Lost` if no image came back.
 fn refusal_of(back: Option<Image>) -> Refusal
+    ensures back { IfSome back (λ image. result ≡ Kept image Memory) }
     ensures kept { IfKept result (λ image fault. (fault ≡ Memory) × (back ≡ Some image)) }
-    ensures lost { IfLost result IsOverwritten }
+    ensures lost { IfLost result (λ fault. fault ≡ Memory) }
 {
     match back {
         Some(image) => Refusal::Kept(image, Fault::Memory),
-        None => Refusal::Lost(Fault::Overwritten(0)),
+        None => Refusal::Lost(Fault::Memory),
     }
 }
 
 /// Moves each share into a part, in a box of its own. If memory runs out, returns the image of the session, provided that
-/// these are all its shares and no region has been written.
+/// these are all its shares and no region was claimed.
 fn boxed(
     alloc: Global,
     mut shares: Vec<Share>,
@@ -91,7 +92,7 @@ fn boxed(
     Ok(boxes)
 }
 
-/// The image of the session whose shares these all are, if no region has been written.
+/// The image of the session whose shares these all are, if no region was claimed.
 fn image_of_all(mut shares: Vec<Share>) -> Option<Image>
     ensures { (image : HeapImage) → All (λ share. image_of share ≡ image) shares.items
         → IfSome result (λ given. given ≡ image) }

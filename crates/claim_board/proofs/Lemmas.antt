@@ -15,8 +15,10 @@ pub mod Reading
 pub mod Listing
 pub mod Sharing
 pub mod Lists
+pub mod Emptying
 pub mod Uniting
 pub mod Endings
+pub mod Homes
 pub mod Alone
 pub mod Meets
 pub mod Gathers

@@ -1,6 +1,7 @@
 -- What is in the slots of a board that keeps regions.
 use Rattle.std.specs.Prelude.{◌≡◌, ℕ, ◌+◌, ◌<◌, Bool, true, false, List, [], length, slice_index_or, slice_get, Option, Some, None}
 use Rattle.read_shares.specs.Parts.{all_parts}
+use Rattle.box_row.specs.declared.place.InRow.{InRow}
 use Rattle.scheduler.specs.MoveTable.{MoveTable, region_count, readers_of}
 use Rattle.claim_board.specs.declared.regions.holding.Holding.{Holding}
 use Rattle.claim_board.specs.declared.regions.holding.Holding.TheVariants.{Share, Original, Moved}
@@ -40,8 +41,14 @@ parts_of _ = 0
 abbrev pub words_of : Option Holding → List ℕ
 words_of (Some (Share s)) = s.value
 words_of (Some (Original d s)) = d.value
-words_of (Some (Moved w)) = w
+words_of (Some (Moved w)) = w.0
 words_of None = []
+
+-- the place in which its region lies
+abbrev pub lies_in : Option Holding → Option InRow
+lies_in (Some (Original d s)) = Some d.alloc
+lies_in (Some (Moved w)) = Some w.1
+lies_in _ = None
 
 -- what is in the slot of a pair, and in that of a region
 abbrev pub in_pair : MoveTable → List (Option Holding) → ℕ → Option Holding
@@ -68,6 +75,14 @@ pub record AreRegions (m : MoveTable) (values : List (Option Holding)) : Type 0 
   pub size : length values ≡ all_slots m
   pub regions : (r : ℕ) → r < region_count m → IsSharedOut m r (in_region m values r)
   pub rights : (p : ℕ) → p < length m.pairs → IsPartOf (in_region m values (slice_index_or m.pairs p (0, 0)).1) (in_pair m values p)
+
+-- the region is in this place, whether it has moved or not
+abbrev pub LieIn : MoveTable → (ℕ → InRow) → List (Option Holding) → Type 0
+LieIn m spots values = (r : ℕ) → r < region_count m → lies_in (in_region m values r) ≡ Some (spots r)
+
+-- each moved region is in this place
+abbrev pub AreLaid : MoveTable → (ℕ → InRow) → List Holding → Type 0
+AreLaid m spots moved = (r : ℕ) → r < region_count m → lies_in (slice_get moved r) ≡ Some (spots r)
 
 -- a region that has moved, for each region
 abbrev pub AreMoved : MoveTable → List Holding → Type 0

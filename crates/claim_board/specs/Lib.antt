@@ -8,6 +8,7 @@ pub mod Places
 pub mod RegionBoards
 pub mod Sharings
 pub mod Unions
+pub mod Homes
 pub mod Boards
 pub mod Callers
 pub mod Notes
@@ -15,6 +16,4 @@ pub mod Finishes
 pub mod Tickets
 pub mod Drains
 pub mod Grants
-pub mod Recorders
-pub mod Faults
 pub mod Others

@@ -27,10 +27,6 @@ pub record ArePlaces (m : MoveTable) (places : Places) : Type 0 where
   pub readers_all : length places.readers.items ≡ region_count m
   pub readers_are : (s : ℕ) → s < region_count m → AreReaders m s (slice_index_or places.readers.items s (0, 0))
 
--- the pairs before this place in the order
-abbrev pub IsListed : MoveTable → ℕ → ℕ → List (ℕ × ℕ) → Type 0
-IsListed m d from ps = IsFirstPlace m.pairs d from (length ps) × (ps ≡ take (length ps) m.pairs)
-
 -- the indices with one more
 abbrev pub with_reader : ℕ → ℕ × ℕ → ℕ → ℕ × ℕ
 with_reader pairs two place = if two.0 == pairs then (place, two.1) else (two.0, place)

@@ -2,6 +2,8 @@
 use Rattle.std.specs.Prelude.{ℕ, List, Some}
 use Rattle.atomic_table.specs.Seated.{TableId}
 use Rattle.read_shares.specs.declared.share.ReadShare.{ReadShare}
+use Rattle.box_row.specs.declared.place.InRow.{InRow}
+use Rattle.box_row.specs.Rows as rows
 use Rattle.scheduler.specs.MoveTable.{MoveTable}
 use Rattle.claim_board.specs.declared.pass.Pass.{Pass}
 use Rattle.claim_board.specs.declared.regions.holding.Holding.TheVariants.{Share}
@@ -29,6 +31,10 @@ original_words b r = words_of (in_region (moves b) b.table.shared.key.values.val
 -- the words of the region once it is filled
 abbrev pub moved_words : RegionBoard → ℕ → List ℕ
 moved_words b r = words_of (moved_of b.table.shared.key r)
+
+-- the place in which the region lies
+abbrev pub spot : RegionBoard → ℕ → InRow
+spot b r = rows.spot b.row r
 
 -- the pass holds the rights to read the sources of the ticket's region that aren't opened, and none is open
 abbrev pub Holds : RegionBoard → RegionTicket → Pass → Type 0

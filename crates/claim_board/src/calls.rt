@@ -28,7 +28,7 @@ use std::marker::Brand;
 use std::snapshot::Snapshot;
 
 /// The word of a completed region.
-const COMPLETED: u64 = 12;
+pub(crate) const COMPLETED: u64 = 12;
 /// Added to the number of readers in the word of a region that isn't to be filled.
 const OUTSIDE: u64 = 16;
 

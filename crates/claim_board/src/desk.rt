@@ -1,141 +1,118 @@
-ghost use Rattle.std.specs.Prelude.{◌≡◌, ◌==◌, ◌-◌, ◌<◌, count_by, IsOk, IfOk, IfErr, IfSome, OnOk, is_some, if◌then◌else◌};
-ghost use Rattle.scheduler.specs.declared.event.Event.TheVariants.{Claim, Look, Drain, Complete, Settle, Poll};
+ghost use Rattle.std.specs.Prelude.{◌≡◌, ◌==◌, ◌-◌, ◌<◌, [], count_by, IfNone, IfSome, is_some, if◌then◌else◌};
+ghost use Rattle.std.specs.Box.{box_allocator};
+ghost use Rattle.scheduler.specs.declared.event.Event.TheVariants.{Claim, Drain, Complete, Settle};
 ghost use Rattle.scheduler.specs.declared.reply.Reply.TheVariants.{Yes, No, All, More, Done as Completed};
-ghost use Rattle.image_streams.specs.declared.fault.Fault.{Fault};
-ghost use Rattle.scheduler.specs.MoveTable.{MoveTable, region_count};
-ghost use Rattle.claim_board.specs.Callers.{Caller, Gains};
+ghost use Rattle.scheduler.specs.MoveTable.{region_count};
+ghost use Rattle.claim_board.specs.declared.regions.region_board.RegionBoard.{RegionBoard};
+ghost use Rattle.claim_board.specs.Boards.{board_of, caller, seen, held, AppendsTo};
 ghost use Rattle.claim_board.specs.Drains.{reply_of};
-ghost use Rattle.claim_board.specs.Faults.{NamesNoOther};
+ghost use Rattle.claim_board.specs.Grants.{IsGranted};
+ghost use Rattle.claim_board.specs.RegionBoards.{moves as moves_of, worker_count, identity, original_words, moved_words, spot, Holds, Reads};
 ghost use Rattle.claim_board.specs.Tickets.{IsUnused, IsTicketOf, IsClosedOf, IsWrittenOf, IsDoneOf};
 
-mod counter;
 pub(crate) mod recorder;
 mod recording;
+mod unrecorded;
 
+use crate::pass::Pass;
+use crate::regions::region_board::RegionBoard;
+use crate::regions::region_ticket::RegionTicket;
 use crate::tokens::closed::Closed;
 use crate::tokens::done::Done;
 use crate::tokens::drained::Drained;
-use crate::tokens::ticket::Ticket;
 use crate::tokens::written::Written;
-use heap_image::Fault;
-use scheduler::Reply;
+use box_row::InRow;
+use raw_region::Region;
+use read_shares::ReadShare;
 
-/// Who may call a desk, and what contracts see of it.
-pub trait Seating {
-    /// The value with which a worker calls.
-    type Seat;
-
-    /// The moves by which the desk grants regions.
-    ghost moves: { Self → MoveTable };
-
-    /// The seat belongs to this desk.
-    ghost serves: { Self → Self.Seat → Type 0 };
-
-    /// Whether contracts see the calls of a seat. They can't if the list of calls is under a lock.
-    ghost tells: { Type 0 };
-
-    /// The worker that calls from the seat, the history that it has seen, and its own calls so far.
-    ghost caller: { Self.Seat → Caller };
-
-    /// The faults with which a call may fail.
-    ghost may_fail: { Fault → Type 0 };
+/// A worker's pass, and its number, from 0 on.
+#[derive(Drop)]
+pub struct Seat {
+    pub pass: Pass,
+    pub number: u32,
 }
 
-/// The calls that a fill makes on a scheduler: the six events, and a note of the words that it copied.
-/// A call is handed what it may need to wait: `Board` takes anything for it, and `Recorder` a handle.
-pub trait Desk<W>: Seating {
-    /// As `Board::claim`.
-    fn claim(&self, seat: &mut Self::Seat, region: u32, wait: &W) -> Result<Option<Ticket>, Fault>
-        requires seat { Self.serves self.now seat.old }
-        requires region { region < region_count (Self.moves self.now) }
-        ensures seat { Self.serves self.now seat.new }
-        ensures worker { (Self.caller seat.new).worker ≡ (Self.caller seat.old).worker }
-        ensures gains { IfOk result (λ answer. Self.tells → Gains (Self.caller seat.old) (Self.caller seat.new) (Claim region) (if is_some answer then Yes else No)) }
-        ensures ticket { IfOk result (λ answer. IfSome answer (λ t. (t.region ≡ region) × IsUnused t × (Self.tells → IsTicketOf (Self.moves self.now) (Self.caller seat.new) t))) }
-        ensures left { IfOk result (λ answer. IfSome answer (λ t. t.left ≡ count_by (λ pair. region == pair.0) (Self.moves self.now).pairs)) }
-        ensures names { IfErr result (NamesNoOther region) }
-        ensures fault { IfErr result Self.may_fail };
+/// What has a board that keeps regions: the board itself, or a recorder.
+pub trait HasBoard {
+    /// The board.
+    ghost keeps: { Self → RegionBoard };
 
-    /// As `Board::look`.
-    fn look(&self, seat: &mut Self::Seat, region: u32, wait: &W) -> Result<Reply, Fault>
-        requires seat { Self.serves self.now seat.old }
-        requires region { region < region_count (Self.moves self.now) }
-        ensures seat { Self.serves self.now seat.new }
-        ensures worker { (Self.caller seat.new).worker ≡ (Self.caller seat.old).worker }
-        ensures gains { IfOk result (λ answer. Self.tells → Gains (Self.caller seat.old) (Self.caller seat.new) (Look region) answer) }
-        ensures names { IfErr result (NamesNoOther region) }
-        ensures fault { IfErr result Self.may_fail };
+    /// The board, for the calls that change nothing.
+    fn board(&self) -> &RegionBoard
+        ensures { result.now ≡ Self.keeps self.now };
+}
 
-    /// As `Board::drain`.
+/// The calls by which a worker changes a board that keeps regions: as they are, or recorded for a schedule. No call fails.
+///
+/// `RegionBoard` takes anything for `wait`, and never waits; `Recorder` takes a handle by which it waits for its lock.
+pub trait Desk<W>: HasBoard {
+    /// As `RegionBoard::claim`.
+    fn claim(
+        &self,
+        seat: &mut Seat,
+        region: u32,
+        wait: &W,
+    ) -> Option<(RegionTicket, Box<Region, InRow>)>
+        requires board { board_of seat.old.pass ≡ identity (Self.keeps self.now) }
+        requires region { region < region_count (moves_of (Self.keeps self.now)) }
+        requires bare { held seat.old.pass ≡ [] }
+        ensures number { seat.new.number ≡ seat.old.number }
+        ensures entry { AppendsTo (moves_of (Self.keeps self.now)) (worker_count (Self.keeps self.now)) seat.old.pass seat.new.pass (Claim region) (if is_some result then Yes else No) }
+        ensures ticket { IfSome result (λ granted. (granted.0.ticket.region ≡ region) × IsUnused granted.0.ticket × IsTicketOf (moves_of (Self.keeps self.now)) (caller seat.new.pass) granted.0.ticket) }
+        ensures left { IfSome result (λ granted. granted.0.ticket.left ≡ count_by (λ pair. region == pair.0) (moves_of (Self.keeps self.now)).pairs) }
+        ensures granted { IfSome result (λ _. IsGranted (moves_of (Self.keeps self.now)) (worker_count (Self.keeps self.now)) region (seen seat.new.pass)) }
+        ensures words { IfSome result (λ granted. granted.1.value ≡ original_words (Self.keeps self.now) region) }
+        ensures place { IfSome result (λ granted. box_allocator granted.1 ≡ spot (Self.keeps self.now) region) }
+        ensures holds { IfSome result (λ granted. Holds (Self.keeps self.now) granted.0 seat.new.pass) }
+        ensures refused { IfNone result (held seat.new.pass ≡ []) };
+
+    /// As `RegionBoard::drain`.
     fn drain(
         &self,
-        seat: &mut Self::Seat,
-        ticket: &mut Ticket,
-        closed: Closed,
+        seat: &mut Seat,
+        ticket: &mut RegionTicket,
+        read: (Closed, ReadShare<Region>),
         wait: &W,
-    ) -> Result<Drained, Fault>
-        requires seat { Self.serves self.now seat.old }
-        requires ticket { Self.tells → IsTicketOf (Self.moves self.now) (Self.caller seat.old) ticket.old }
-        requires closed { Self.tells → IsClosedOf (Self.moves self.now) (Self.caller seat.old) ticket.old closed }
-        ensures seat { Self.serves self.now seat.new }
-        ensures worker { (Self.caller seat.new).worker ≡ (Self.caller seat.old).worker }
-        ensures gains { IfOk result (λ answer. Self.tells → Gains (Self.caller seat.old) (Self.caller seat.new) (Drain closed.destination closed.source) (reply_of answer)) }
-        ensures ticket { OnOk result (Self.tells → IsTicketOf (Self.moves self.now) (Self.caller seat.new) ticket.new) }
-        ensures same { (ticket.new.region ≡ ticket.old.region) × (ticket.new.next ≡ ticket.old.next) × (ticket.new.right_is_out ≡ ticket.old.right_is_out) × (ticket.new.from ≡ ticket.old.from) }
-        ensures left { OnOk result (ticket.new.left ≡ ticket.old.left - 1) }
-        ensures names { IfErr result (NamesNoOther closed.destination) }
-        ensures fault { IfErr result Self.may_fail };
+    ) -> Drained
+        requires board { board_of seat.old.pass ≡ identity (Self.keeps self.now) }
+        requires ticket { IsTicketOf (moves_of (Self.keeps self.now)) (caller seat.old.pass) ticket.old.ticket }
+        requires closed { IsClosedOf (moves_of (Self.keeps self.now)) (caller seat.old.pass) ticket.old.ticket read.0 }
+        requires reads { Reads (Self.keeps self.now) ticket.old read.0.source read.1 seat.old.pass }
+        ensures number { seat.new.number ≡ seat.old.number }
+        ensures entry { AppendsTo (moves_of (Self.keeps self.now)) (worker_count (Self.keeps self.now)) seat.old.pass seat.new.pass (Drain read.0.destination read.0.source) (reply_of result) }
+        ensures ticket { IsTicketOf (moves_of (Self.keeps self.now)) (caller seat.new.pass) ticket.new.ticket }
+        ensures left { ticket.new.ticket.left ≡ ticket.old.ticket.left - 1 }
+        ensures same { (ticket.new.ticket.region ≡ ticket.old.ticket.region) × (ticket.new.ticket.next ≡ ticket.old.ticket.next) × (ticket.new.ticket.right_is_out ≡ ticket.old.ticket.right_is_out) × (ticket.new.ticket.from ≡ ticket.old.ticket.from) }
+        ensures holds { Holds (Self.keeps self.now) ticket.new seat.new.pass };
 
-    /// As `Board::complete`.
+    /// As `RegionBoard::complete`.
     fn complete(
         &self,
-        seat: &mut Self::Seat,
-        ticket: Ticket,
-        written: Written,
+        seat: &mut Seat,
+        ticket: RegionTicket,
+        written: (Written, Box<Region, InRow>),
         wait: &W,
-    ) -> Result<Done, Fault>
-        requires seat { Self.serves self.now seat.old }
-        requires ticket { Self.tells → IsTicketOf (Self.moves self.now) (Self.caller seat.old) ticket }
-        requires none_left { Self.tells → ticket.left ≡ 0 }
-        requires written { Self.tells → IsWrittenOf ticket written }
-        ensures seat { Self.serves self.now seat.new }
-        ensures worker { (Self.caller seat.new).worker ≡ (Self.caller seat.old).worker }
-        ensures gains { OnOk result (Self.tells → Gains (Self.caller seat.old) (Self.caller seat.new) (Complete ticket.region) Completed) }
-        ensures done { IfOk result (λ d. (d.region ≡ ticket.region) × (Self.tells → IsDoneOf (Self.caller seat.new) d)) }
-        ensures names { IfErr result (NamesNoOther ticket.region) }
-        ensures fault { IfErr result Self.may_fail };
+    ) -> Done
+        requires board { board_of seat.old.pass ≡ identity (Self.keeps self.now) }
+        requires ticket { IsTicketOf (moves_of (Self.keeps self.now)) (caller seat.old.pass) ticket.ticket }
+        requires none_left { ticket.ticket.left ≡ 0 }
+        requires written { IsWrittenOf ticket.ticket written.0 }
+        requires holds { Holds (Self.keeps self.now) ticket seat.old.pass }
+        requires moved { written.1.value ≡ moved_words (Self.keeps self.now) ticket.ticket.region }
+        requires place { box_allocator written.1 ≡ spot (Self.keeps self.now) ticket.ticket.region }
+        ensures number { seat.new.number ≡ seat.old.number }
+        ensures entry { AppendsTo (moves_of (Self.keeps self.now)) (worker_count (Self.keeps self.now)) seat.old.pass seat.new.pass (Complete ticket.ticket.region) Completed }
+        ensures done { (result.region ≡ ticket.ticket.region) × IsDoneOf (caller seat.new.pass) result }
+        ensures holds { held seat.new.pass ≡ [] };
 
-    /// As `Board::settle`.
-    fn settle(&self, seat: &mut Self::Seat, done: Done, wait: &W) -> Result<bool, Fault>
-        requires seat { Self.serves self.now seat.old }
-        requires done { Self.tells → IsDoneOf (Self.caller seat.old) done }
-        ensures seat { Self.serves self.now seat.new }
-        ensures worker { (Self.caller seat.new).worker ≡ (Self.caller seat.old).worker }
-        ensures gains { IfOk result (λ answer. Self.tells → Gains (Self.caller seat.old) (Self.caller seat.new) (Settle done.region) (if answer then All else More)) }
-        ensures names { IfErr result (NamesNoOther done.region) }
-        ensures fault { IfErr result Self.may_fail };
+    /// As `RegionBoard::settle`.
+    fn settle(&self, seat: &mut Seat, done: Done, wait: &W) -> bool
+        requires board { board_of seat.old.pass ≡ identity (Self.keeps self.now) }
+        requires done { IsDoneOf (caller seat.old.pass) done }
+        ensures number { seat.new.number ≡ seat.old.number }
+        ensures entry { AppendsTo (moves_of (Self.keeps self.now)) (worker_count (Self.keeps self.now)) seat.old.pass seat.new.pass (Settle done.region) (if result then All else More) }
+        ensures holds { held seat.new.pass ≡ held seat.old.pass };
 
-    /// As `Board::poll`.
-    fn poll(&self, seat: &mut Self::Seat, wait: &W) -> Result<bool, Fault>
-        requires seat { Self.serves self.now seat.old }
-        ensures seat { Self.serves self.now seat.new }
-        ensures worker { (Self.caller seat.new).worker ≡ (Self.caller seat.old).worker }
-        ensures gains { IfOk result (λ answer. Self.tells → Gains (Self.caller seat.old) (Self.caller seat.new) Poll (if answer then All else More)) }
-        ensures answers { IsOk result }
-        ensures fault { IfErr result Self.may_fail };
-
-    /// Notes that this many more words of the ticket's region are written. Not a call of the seat.
-    fn copied(
-        &self,
-        seat: &mut Self::Seat,
-        ticket: &Ticket,
-        words: u32,
-        wait: &W,
-    ) -> Result<(), Fault>
-        requires seat { Self.serves self.now seat.old }
-        ensures seat { Self.serves self.now seat.new }
-        ensures worker { (Self.caller seat.new).worker ≡ (Self.caller seat.old).worker }
-        ensures unchanged { OnOk result (Self.tells → Self.caller seat.new ≡ Self.caller seat.old) }
-        ensures names { IfErr result (NamesNoOther ticket.now.region) }
-        ensures fault { IfErr result Self.may_fail };
+    /// Notes that the worker of the seat has written this many more words of the ticket's region. Not a call of the board.
+    fn copied(&self, seat: &Seat, ticket: &RegionTicket, words: u32, wait: &W);
 }

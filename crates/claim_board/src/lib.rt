@@ -10,14 +10,18 @@
 //!   don't wait.
 //! - Contracts see a pass as two lists: `seen`, a legal history of the scheduler, and `mine`,
 //!   the worker's own calls in it. A call appends one entry to a legal history that begins with `seen`.
-//!   `Board::meet` and `Board::finish` join what passes have seen.
+//!   `meet` and `finish` join what passes have seen.
 //! - `RegionBoard` is a board that keeps the regions as well, and for each pair of the moves the right to
 //!   read the source. Its calls make the same atomic steps. A granted claim has the region, with its
 //!   original words, and nobody reads it any more; `open` lends the right to read a source, `drain` puts
 //!   it back, and `complete` puts the region back with its moved words. So nothing is locked or counted
-//!   for a region, and no call finds one in a wrong state. `finish` returns all regions. A pass has one
-//!   ticket at a time, and a ticket one opening. What is given up, or dropped before `finish`, stays
-//!   allocated for good, but for regions that have moved.
+//!   for a region, and no call finds one in a wrong state. `finish` returns all regions, and `take_back` does
+//!   if none was claimed. A pass has one ticket at a time, and a ticket one opening.
+//! - A `RegionBoard` that is dropped, also by a `finish` or `take_back` that returns `None`, frees the
+//!   regions that have moved, and each unclaimed region none of whose readers is being filled. The others
+//!   that are unclaimed stay allocated for good, since what a ticket that was given up held of them
+//!   doesn't come back. A claimed region that isn't completed is its claimant's. If any was claimed, so
+//!   does the block in which all regions lay, though not their words.
 //! - `Ticket`, `Opening`, `Closed`, `Right`, `Written` and `Done` can't be dropped. Each must be spent
 //!   by the call that its page names, or given up.
 //! - `Desk` is the trait of the calls that a fill makes. `Board` implements it, and so does `Recorder`,
@@ -38,7 +42,7 @@
 //! that begins with what every living pass has seen, and each word has the value that this history
 //! determines. The table of a board may have slots as well, which hold what the same history says
 //! (`specs/Slots.antt`); that of a `Board` has none. All contracts are proved. No contract says that a
-//! claim ever succeeds, how threads take turns, or how long a call takes.
+//! claim ever succeeds, that memory is freed, how threads take turns, or how long a call takes.
 #![tactic(auto)]
 
 mod board;
@@ -56,7 +60,7 @@ mod tokens;
 
 pub use board::Board;
 pub use desk::recorder::Recorder;
-pub use desk::{Desk, Seating};
+pub use desk::{Desk, HasBoard, Seat};
 pub use finished::Finished;
 pub use laws::{
     appended_calls_are_gained, appended_calls_leave_others, no_region_is_read_and_written,

@@ -5,10 +5,11 @@ pub mod Reasons
 pub mod Streams
 pub mod Losses
 pub mod Upgrades
-pub mod Ends
 pub mod Crossing
 pub mod Rest
 pub mod Finishing
 pub mod Meeting
 pub mod Behind
 pub mod Stopping
+pub mod Regions
+pub mod Reversals

@@ -1,10 +1,9 @@
 -- Why workers end before all regions to fill are settled.
-use Rattle.std.specs.Prelude.{◌≡◌, ℕ, ◌<◌, ◌⊎◌, Option, Some, None, Result, Ok, Err}
+use Rattle.std.specs.Prelude.{◌≡◌, ℕ, ◌<◌, Option, Some, None, Result, Ok, Err}
 use Rattle.object_heap.specs.HeapImage.{HeapImage}
 use Rattle.image_streams.specs.declared.fault.Fault.{Fault}
 use Rattle.image_streams.specs.declared.fault.Fault.TheVariants.{Gate}
 use Rattle.summary.specs.RegionData.{fill_count}
-use Rattle.fill.specs.FillFaults.{IsFaultOf}
 use Rattle.collector.specs.declared.workers.end.End.{End}
 use Rattle.collector.specs.declared.workers.end.End.TheVariants.{Stopped, Failed}
 
@@ -16,14 +15,14 @@ MayBeRefused may_refuse regions = (r : ℕ) × (r < regions) × may_refuse r
 abbrev pub MayRefuse : (ℕ → ℕ → Type 0) → ℕ → HeapImage → Type 0
 MayRefuse may_refuse workers image = MayBeRefused (λ r. MayBeRefused (λ n. may_refuse n r) workers) (fill_count image)
 
--- A worker meets a fault: that of a fill, or the gate's, which may refuse it one of the first `regions` regions.
-abbrev pub MayFail : (Fault → Type 0) → (ℕ → Type 0) → ℕ → Fault → Type 0
-MayFail may_fail may_refuse regions fault = IsFaultOf may_fail fault ⊎ ((fault ≡ Gate) × MayBeRefused may_refuse regions)
+-- the gate refuses a worker one of the first `regions` regions
+abbrev pub IsRefused : (ℕ → Type 0) → ℕ → Fault → Type 0
+IsRefused may_refuse regions fault = (fault ≡ Gate) × MayBeRefused may_refuse regions
 
--- a worker is stopped by another's fault, or meets one itself
-abbrev pub MayEndEarly : (Fault → Type 0) → (ℕ → Type 0) → ℕ → End → Type 0
-MayEndEarly may_fail may_refuse regions (Stopped held) = Unit {0}
-MayEndEarly may_fail may_refuse regions (Failed fault) = MayFail may_fail may_refuse regions fault
+-- a worker is stopped by another's refusal, or is refused itself
+abbrev pub MayEndEarly : (ℕ → Type 0) → ℕ → End → Type 0
+MayEndEarly may_refuse regions (Stopped held) = Unit {0}
+MayEndEarly may_refuse regions (Failed fault) = IsRefused may_refuse regions fault
 
 -- the fault that a worker with this end has met itself
 unfoldable pub met_fault : Result Unit End → Option Fault
@@ -31,6 +30,6 @@ met_fault (Ok _) = None
 met_fault (Err (Stopped held)) = None
 met_fault (Err (Failed fault)) = Some fault
 
--- a collection of the image by `workers` workers may meet the fault: that of a fill, or the gate's, which may refuse
-abbrev pub IsLostTo : (Fault → Type 0) → (ℕ → ℕ → Type 0) → ℕ → HeapImage → Fault → Type 0
-IsLostTo may_fail may_refuse workers image fault = IsFaultOf may_fail fault ⊎ ((fault ≡ Gate) × MayRefuse may_refuse workers image)
+-- a collection of the image by `workers` workers is lost to the gate, which may refuse
+abbrev pub IsLostTo : (ℕ → ℕ → Type 0) → ℕ → HeapImage → Fault → Type 0
+IsLostTo may_refuse workers image fault = (fault ≡ Gate) × MayRefuse may_refuse workers image

@@ -3,5 +3,5 @@ pub mod Collections
 pub mod Streams
 pub mod Records
 pub mod Rest
-pub mod Ends
+pub mod Regions
 pub mod Sessions

@@ -2,13 +2,11 @@
 use Rattle.std.specs.Prelude.{◌≡◌, ◌⊎◌, ℕ}
 use Rattle.image_streams.specs.declared.fault.Fault.{Fault}
 use Rattle.image_streams.specs.declared.fault.Fault.TheVariants.{Memory, Schedule, Gate}
-use Rattle.fill.specs.FillFaults.{IsOverwritten}
 
 -- a line of the schedule is at fault
 abbrev pub IsOfSchedule : Fault → Type 0
 IsOfSchedule fault = (line : ℕ) × (fault ≡ Schedule line)
 
--- The gate refused; a cell, a queue or the recorder's board contradicts the order of work; memory for a line ran out; or
--- a line is at fault.
+-- the gate refused, memory for a line ran out, or a line is at fault
 abbrev pub IsLoss : Fault → Type 0
-IsLoss fault = (fault ≡ Gate) ⊎ (IsOverwritten fault ⊎ ((fault ≡ Memory) ⊎ IsOfSchedule fault))
+IsLoss fault = (fault ≡ Gate) ⊎ ((fault ≡ Memory) ⊎ IsOfSchedule fault)

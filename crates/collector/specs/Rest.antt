@@ -1,15 +1,20 @@
--- Workers at rest: each has settled the regions that it claimed, and makes no more calls.
+-- Workers at rest: each has settled the regions that it claimed, holds none, and makes no more calls.
 use Rattle.std.specs.Prelude.{◌≡◌, ◌≢◌, ℕ, ◌+◌, ◌<◌, ◌||◌, ◌==◌, IsTrue, Result, Ok, Err, Some, None, List, [], length, slice_index_or, map, All}
 use Rattle.scheduler.specs.declared.entry.Entry.{Entry}
 use Rattle.scheduler.specs.MoveTable.{MoveTable, to_fill}
 use Rattle.scheduler.specs.State.{AllAreSettled}
 use Rattle.scheduler.specs.History.{BeginsWith, IsLegal, calls_by, state_of}
+use Rattle.claim_board.specs.declared.pass.Pass.{Pass}
+use Rattle.claim_board.specs.declared.regions.region_board.RegionBoard.{RegionBoard}
+use Rattle.claim_board.specs.Boards.{board_of, worker, caller, held}
 use Rattle.claim_board.specs.Callers.{Caller, own}
+use Rattle.std.specs.Box.{box_allocator}
+use Rattle.claim_board.specs.RegionBoards.{moves, identity, original_words, spot, Holds}
 use Rattle.claim_board.specs.Tickets.{IsUnused, IsTicketOf}
 use Rattle.collector.specs.declared.workers.worker.Worker.{Worker}
 use Rattle.collector.specs.declared.workers.end.End.{End}
 use Rattle.collector.specs.declared.workers.end.End.TheVariants.{Stopped, Failed}
-use Rattle.collector.specs.declared.workers.held_ticket.HeldTicket.{HeldTicket}
+use Rattle.collector.specs.declared.workers.held_region.HeldRegion.{HeldRegion}
 
 -- by these calls of its own, the worker has settled each region that it has claimed
 abbrev pub HasSettled : ℕ → List Entry → Type 0
@@ -18,29 +23,36 @@ HasSettled worker calls = (r : ℕ) → (state_of calls).claimed r ≡ Some work
 abbrev pub IsTidy : Caller → Type 0
 IsTidy c = HasSettled c.worker c.mine
 
--- the same worker, which is at rest again if it was
-abbrev pub StaysTidy : Caller → Caller → Type 0
-StaysTidy old new = (new.worker ≡ old.worker) × (IsTidy old → IsTidy new)
+-- the worker has settled each region that it has claimed, and its pass holds nothing
+abbrev pub Rests : Pass → Type 0
+Rests p = IsTidy (caller p) × (held p ≡ [])
 
--- the worker has settled all that it claimed but the region of this ticket, which it may fill
-pub record IsTidyBut (m : MoveTable) (regions : ℕ) (held : HeldTicket) (c : Caller) : Type 0 where
-  pub unused : IsUnused held.ticket
-  pub own_ticket : IsTicketOf m c held.ticket
-  pub inside : held.ticket.region < regions
-  pub settled : (r : ℕ) → r ≢ held.ticket.region → (own c).claimed r ≡ Some c.worker → IsTrue ((own c).settled r)
+-- the same worker, at rest
+abbrev pub IsAtRest : Pass → Pass → Type 0
+IsAtRest old new = (worker new ≡ worker old) × Rests new
 
--- a worker with this result hasn't met a fault itself, and has settled what it claimed but for a ticket in the result
-abbrev pub LeavesTidy : {X : Type 0} → MoveTable → ℕ → Result X End → Caller → Type 0
-LeavesTidy m regions (Ok _) c = IsTidy c
-LeavesTidy m regions (Err (Stopped None)) c = IsTidy c
-LeavesTidy m regions (Err (Stopped (Some held))) c = IsTidyBut m regions held c
-LeavesTidy m regions (Err (Failed fault)) c = ⊥
+-- The worker has settled all that it claimed but this region, which it may fill.
+pub record HoldsRegion (b : RegionBoard) (regions : ℕ) (h : HeldRegion) (p : Pass) : Type 0 where
+  pub unused : IsUnused h.ticket.ticket
+  pub own_ticket : IsTicketOf (moves b) (caller p) h.ticket.ticket
+  pub inside : h.ticket.ticket.region < regions
+  pub rights : Holds b h.ticket p
+  pub words : h.region.value ≡ original_words b h.ticket.ticket.region
+  pub place : box_allocator h.region ≡ spot b h.ticket.ticket.region
+  pub settled : (r : ℕ) → r ≢ h.ticket.ticket.region → (own (caller p)).claimed r ≡ Some (worker p) → IsTrue ((own (caller p)).settled r)
 
--- the same worker, which leaves its regions tidy if it was at rest; nothing is said of one that has met a fault itself
-abbrev pub EndsTidy : {X : Type 0} → MoveTable → ℕ → Result X End → Caller → Caller → Type 0
-EndsTidy m regions (Ok x) old new = (new.worker ≡ old.worker) × (IsTidy old → LeavesTidy m regions (Ok x) new)
-EndsTidy m regions (Err (Stopped held)) old new = (new.worker ≡ old.worker) × (IsTidy old → LeavesTidy {X = Unit} m regions (Err (Stopped held)) new)
-EndsTidy m regions (Err (Failed fault)) old new = Unit {0}
+-- a worker with this result hasn't been refused a region itself, and is at rest but for a region in the result
+abbrev pub Leaves : {X : Type 0} → RegionBoard → ℕ → Result X End → Pass → Type 0
+Leaves b regions (Ok _) p = Rests p
+Leaves b regions (Err (Stopped None)) p = Rests p
+Leaves b regions (Err (Stopped (Some h))) p = HoldsRegion b regions h p
+Leaves b regions (Err (Failed fault)) p = ⊥
+
+-- the same worker, which leaves its regions so; nothing is said of one that was refused a region itself
+abbrev pub Ends : {X : Type 0} → RegionBoard → ℕ → Result X End → Pass → Pass → Type 0
+Ends b regions (Ok x) old new = (worker new ≡ worker old) × Leaves b regions (Ok x) new
+Ends b regions (Err (Stopped h)) old new = (worker new ≡ worker old) × Leaves {X = Unit} b regions (Err (Stopped h)) new
+Ends b regions (Err (Failed fault)) old new = Unit {0}
 
 -- The same worker of the same board, which has claimed no other region in between, and has settled region r.
 pub record Settles (r : ℕ) (old new : Caller) : Type 0 where
@@ -72,19 +84,18 @@ SettlesNext m workers worker old new r =
     (past : List Entry) → BeginsWith old past → AreSettledBelow m workers worker past old r → AreSettledBelow m workers worker past new (r + 1)
 
 -- how all workers leave their regions
-abbrev pub AllEndTidy : {S : Type 0} → MoveTable → ℕ → (S → Caller) → List (Worker S) → List (Worker S) → Type 0
-AllEndTidy {S = S} m regions caller old new = (k : ℕ) (v w : Worker S) → k < length new
-    → EndsTidy m regions (slice_index_or new k w).result (caller (slice_index_or old k v).seat) (caller (slice_index_or new k w).seat)
+abbrev pub AllEnd : RegionBoard → ℕ → List Worker → List Worker → Type 0
+AllEnd b regions old new = (k : ℕ) (v w : Worker) → k < length new → Ends b regions (slice_index_or new k w).result (slice_index_or old k v).seat.pass (slice_index_or new k w).seat.pass
 
 -- the callers are the workers from 0 on, and none has made a call
 pub record AreFresh (callers : List Caller) : Type 0 where
   pub numbered : (k : ℕ) (c : Caller) → k < length callers → (slice_index_or callers k c).worker ≡ k
   pub quiet : All (λ c. (c.seen ≡ []) × (c.mine ≡ [])) callers
 
--- each is the worker of its place, and leaves its regions tidy
-pub record AreStopped {S : Type 0} (m : MoveTable) (regions : ℕ) (caller : S → Caller) (workers : List (Worker S)) : Type 0 where
-  pub numbered : (k : ℕ) (w : Worker S) → k < length workers → (caller (slice_index_or workers k w).seat).worker ≡ k
-  pub tidy : All (λ w. LeavesTidy m regions w.result (caller w.seat)) workers
+-- each is the worker of its place, and leaves its regions so
+pub record AreStopped (b : RegionBoard) (regions : ℕ) (workers : List Worker) : Type 0 where
+  pub numbered : (k : ℕ) (w : Worker) → k < length workers → Rattle.claim_board.specs.Boards.worker (slice_index_or workers k w).seat.pass ≡ k
+  pub left : All (λ w. Leaves b regions w.result w.seat.pass) workers
 
 -- each caller is the worker of its place, and has settled what it claimed
 pub record AreAtRest (callers : List Caller) : Type 0 where
@@ -99,8 +110,16 @@ HasAllCalls log callers = All (λ c. BeginsWith log c.seen × (calls_by c.worker
 abbrev pub IsFilled : MoveTable → ℕ → List Caller → Type 0
 IsFilled m workers callers = (log : List Entry) → IsLegal m workers log → HasAllCalls log callers → AllAreSettled m (state_of log)
 
-abbrev pub callers_of : {S : Type 0} → (S → Caller) → List (Worker S) → List Caller
-callers_of caller workers = map (λ w. caller w.seat) workers
+abbrev pub callers_of : List Worker → List Caller
+callers_of workers = map (λ w. caller w.seat.pass) workers
+
+-- the passes are of this board
+abbrev pub AreOf : RegionBoard → List Worker → Type 0
+AreOf b workers = All (λ w. board_of w.seat.pass ≡ identity b) workers
+
+-- the passes hold nothing
+abbrev pub AreBare : List Worker → Type 0
+AreBare workers = All (λ w. held w.seat.pass ≡ []) workers
 
 -- the same workers with the same calls, of which each may have seen more
 abbrev pub AreSame : List Caller → List Caller → Type 0

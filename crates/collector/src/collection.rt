@@ -9,7 +9,6 @@ ghost use Rattle.scheduler.specs.ImageMoves.{image_table};
 ghost use Rattle.scheduler.specs.History.{IsLegal};
 ghost use Rattle.scheduler.specs.Whole.{HasEachOnce};
 ghost use Rattle.claim_board.specs.Finishes.{history};
-ghost use Rattle.fill.specs.FillFaults.{IsOverwritten};
 ghost use Rattle.collector.specs.Halts.{MayRefuse};
 ghost use Rattle.collector.specs.Collections.{figures_of, AreNoneOrTooMany, IfKept, IfLost};
 ghost use Rattle.collector.specs.Streams.{IsTextBegun, IsFirstOfBytes, MayRefuseRead};
@@ -18,13 +17,14 @@ ghost use Rattle.collector.specs.declared.outcome.Refusal.TheVariants.{Kept, Los
 pub(crate) mod clean_up;
 pub(crate) mod collection_desk;
 pub(crate) mod compaction;
+pub(crate) mod preparing;
 pub(crate) mod recording;
 pub(crate) mod redirector;
 
 use crate::gate::Gate;
 use crate::outcome::{Figures, Outcome, Refusal};
-use claim_board::{Board, Finished};
-use compaction::{Compaction, finish_collection};
+use claim_board::{Finished, RegionBoard};
+use compaction::Compaction;
 use heap_image::{Fault, Image, Intake, Outlet, read_image, write_image_buffered};
 use retry_policy::Tries;
 use std::alloc::Global;
@@ -99,9 +99,8 @@ fn read_whole<R: Intake>(
 /// Compacts an image. Its regions are filled by 1 to 64 workers, each in a thread of its own if one can be started.
 ///
 /// Returns `Kept` before any worker begins: with fault 12 exactly if the number of workers, which is tested first,
-/// isn't 1 to 64, and with fault 11 if memory runs out. Returns `Lost` afterwards: with fault 16 if the gate refused a
-/// region, and with fault 15 if a cell contradicts the order of work. If several workers meet a fault, the lowest worker's is
-/// returned. What the workers leave without a fault is filled in the caller's thread.
+/// isn't 1 to 64, and with fault 11 if memory runs out. Returns `Lost` afterwards, with fault 16, if and only if the gate
+/// refused a region. What the workers leave without a refusal is filled in the caller's thread.
 ///
 /// Nothing but the threads allocates once the workers begin. One worker alone never waits, and fills the regions in
 /// ascending order.
@@ -120,23 +119,24 @@ pub fn collect<G: Gate + Sync, T: Threads + Sync, W: Wait + Sync>(
     ensures kept { IfErr result (λ refusal. IfKept refusal
         (λ back fault. (back ≡ image) × ((fault ≡ Fault.Memory) ⊎ (fault ≡ Fault.Workers)))) }
     ensures workers { result ≡ Err (Kept image Fault.Workers) ↔ AreNoneOrTooMany workers }
-    ensures lost { IfErr result (λ refusal. IfLost refusal (λ fault. (fault ≡ Fault.Gate) ⊎ IsOverwritten fault)) }
+    ensures lost { IfErr result (λ refusal. IfLost refusal (λ fault. fault ≡ Fault.Gate)) }
     ensures gate { result ≡ Err (Lost Fault.Gate) → MayRefuse (G.may_refuse gate.now) workers image }
 {
     let many = Many {
         threads,
         most: workers as usize,
     };
-    let mut compaction = Compaction::<Board>::prepare(alloc, image, workers, &many)?;
+    let mut compaction = Compaction::<RegionBoard>::prepare(alloc, image, workers, &many)?;
     compaction.work_if_several(gate, threads, wait)?;
-    compaction.fill_left(gate, wait)?;
-    Ok(finish_collection(compaction, &many)?)
+    compaction.fill_left(workers > 1, gate, wait)?;
+    let ended = compaction.finish(&many);
+    Ok((ended.outcome, ended.finished))
 }
 
 /// Compacts an image in the caller's thread. Starts no thread, and never waits.
 ///
-/// Returns `Kept` with fault 11 if memory runs out, before any region is filled. Returns `Lost` afterwards: with fault
-/// 16 if the gate refused a region, and with fault 15 if a cell contradicts the order of work.
+/// Returns `Kept` with fault 11 if memory runs out, before any region is filled. Returns `Lost` afterwards, with fault 16,
+/// if and only if the gate refused a region.
 ///
 /// The regions are filled in ascending order, without a queue or a flag. Nothing is allocated once regions are filled.
 pub fn collect_alone<G: Gate>(
@@ -149,10 +149,11 @@ pub fn collect_alone<G: Gate>(
     ensures legal { IfOk result (λ done. IsLegal (image_table image) 1 (history done.1)) }
     ensures once { IfOk result (λ done. HasEachOnce (image_table image) (history done.1)) }
     ensures kept { IfErr result (λ refusal. IfKept refusal (λ back fault. (back ≡ image) × (fault ≡ Fault.Memory))) }
-    ensures lost { IfErr result (λ refusal. IfLost refusal (λ fault. (fault ≡ Fault.Gate) ⊎ IsOverwritten fault)) }
+    ensures lost { IfErr result (λ refusal. IfLost refusal (λ fault. fault ≡ Fault.Gate)) }
     ensures gate { result ≡ Err (Lost Fault.Gate) → MayRefuse (G.may_refuse gate.now) 1 image }
 {
-    let mut compaction = Compaction::<Board>::prepare(alloc, image, 1, &Alone)?;
-    compaction.fill_left(gate, &Tries { most: 0 })?;
-    Ok(finish_collection(compaction, &Alone)?)
+    let mut compaction = Compaction::<RegionBoard>::prepare(alloc, image, 1, &Alone)?;
+    compaction.fill_left(false, gate, &Tries { most: 0 })?;
+    let ended = compaction.finish(&Alone);
+    Ok((ended.outcome, ended.finished))
 }

@@ -23,16 +23,17 @@
 //! the word machine allows and that settles all regions to fill; `record_stream` writes the texts of both, and nothing
 //! before `record` has succeeded.
 //!
-//! A gate refuses only where it states that it may. Unless it refuses, or a cell contradicts the order of work, `collect` and
-//! `collect_alone` end well: what the workers leave, for whatever reason, the caller's thread fills.
+//! `collect` and `collect_alone` lose an image only to a gate that refuses a region, and a gate refuses only where it states
+//! that it may. A session loses it only if its end isn't given all shares. The regions go from the board to the worker
+//! and back by the board's own steps, so no worker ever finds one in a wrong state. What the workers leave, for whatever
+//! reason, the caller's thread fills.
 //!
 //! # What is only tested, or not stated
 //!
-//! That several threads run, and that no cell contradicts, which is fault 15: tests with gates cover this. That
-//! the fault returned is the lowest worker's: this is proved of the function that picks it, and stated by no public
-//! contract. That the schedule of `record` is what its own workers did: tests force orders by a gate. That the workers
-//! of `record` begin together: a test counts those that have a share of a small heap. No contract says how long a call
-//! takes.
+//! That a collection ends, and that several threads run. That the fault returned is the lowest worker's: this is proved of the
+//! function that picks it, and stated by no public contract. That the schedule of `record` is what its own workers did,
+//! and so that fault 14 never comes: tests force orders by a gate. That the workers of `record` begin together: a test
+//! counts those that have a share of a small heap. No contract says how long a call takes.
 #![tactic(auto)]
 
 mod collection;
@@ -49,7 +50,6 @@ pub use laws::an_upgrade_is_collected_alike;
 pub use outcome::{Figures, Outcome, Refusal};
 pub use ready_queues::{Ready, Thief};
 pub use session::Session;
-pub use session::halt::Halt;
 pub use session::progress::Progress;
 pub use session::share::Share;
 pub use verification::{

@@ -1,41 +1,41 @@
 //! A collection in steps, whose workers run by the caller's calls.
-ghost use Rattle.std.specs.Prelude.{◌≡◌, ◌<◌, ◌⊎◌, ◌↔◌, All, length, vec_len, IfOk, IfErr, IfSome, Err};
+ghost use Rattle.std.specs.Prelude.{◌≡◌, ◌<◌, ◌⊎◌, ◌↔◌, [], All, length, vec_len, IfOk, IfErr, IfSome, Err};
 ghost use Rattle.heap_image.specs.ImageText.{with_tail};
 ghost use Rattle.summary.specs.Compaction.{compact};
-ghost use Rattle.claim_board.specs.Boards.{identity, board_of};
-ghost use Rattle.fill.specs.FillFaults.{IsOverwritten};
+ghost use Rattle.claim_board.specs.Boards.{board_of, held};
+ghost use Rattle.claim_board.specs.RegionBoards.{identity};
 ghost use Rattle.collector.specs.Collections.{figures_of, AreNoneOrTooMany, IfKept, IfLost};
 ghost use Rattle.collector.specs.declared.outcome.Refusal.TheVariants.{Kept};
-ghost use Rattle.collector.specs.Ends.{MayEnd, MayHalt};
+ghost use Rattle.collector.specs.Rest.{Rests};
 
 mod dealing;
-pub(crate) mod halt;
 pub(crate) mod progress;
 pub(crate) mod share;
 
+use crate::collection::clean_up::clean_up;
 use crate::collection::compaction::Compaction;
+use crate::collection::preparing::with_regions;
 use crate::gate::OpenGate;
 use crate::outcome::{Outcome, Refusal};
-use crate::workers::end::End;
 use crate::workers::fill_task::FillTask;
 use crate::workers::shared::Shared;
 use crate::workers::worker::Worker;
-use claim_board::{Board, Pass};
+use claim_board::{Pass, RegionBoard, Seat};
 use crossbeam_utils::Backoff;
 use dealing::shares_of;
-use halt::Halt;
 use heap_image::{Fault, Image, Version};
 use progress::Progress;
 use retry_policy::Tries;
+use scheduler::moves_of_images;
 use share::Share;
 use std::alloc::Global;
-use std::sync::atomic::{AtomicUsize, Ordering};
+use std::sync::atomic::AtomicUsize;
 use thread_row::Alone;
 
 /// A collection in steps. Each of its workers has a [`Share`].
 #[derive(Drop)]
 pub struct Session {
-    pub(crate) shared: Shared<Board>,
+    pub(crate) shared: Shared<RegionBoard>,
     /// How many live addresses the image has in version 1, otherwise how many roots.
     numbers: usize,
     /// How many shares are presented to end the session.
@@ -50,17 +50,18 @@ impl Session {
     /// waits.
     ///
     /// Returns `Kept` with fault 12 exactly if the number of workers, which is tested first, isn't 1 to 64, and with fault
-    /// 11 if memory runs out. Returns `Lost` with fault 15 if a cell contradicts that no region has been written.
+    /// 11 if memory runs out. No contract excludes that the image is lost to fault 11, as none says that nobody has claimed
+    /// a region before there are shares.
     pub fn prepare(alloc: Global, image: Image, workers: u32) -> Result<Vec<Share>, Refusal>
         ensures count { IfOk result (λ shares. vec_len shares ≡ workers) }
         ensures image { IfOk result (λ shares. All (λ share. image_of share ≡ image) shares.items) }
         ensures kept { IfErr result (λ refusal. IfKept refusal
             (λ back fault. (back ≡ image) × ((fault ≡ Fault.Memory) ⊎ (fault ≡ Fault.Workers)))) }
         ensures workers { result ≡ Err (Kept image Fault.Workers) ↔ AreNoneOrTooMany workers }
-        ensures lost { IfErr result (λ refusal. IfLost refusal IsOverwritten) }
+        ensures lost { IfErr result (λ refusal. IfLost refusal (λ fault. fault ≡ Fault.Memory)) }
     {
         let numbers = numbers_of(&image);
-        let compaction = Compaction::<Board>::prepare(alloc, image, workers, &Alone)?;
+        let compaction = Compaction::<RegionBoard>::prepare(alloc, image, workers, &Alone)?;
         let session = Session {
             shared: compaction.shared,
             numbers,
@@ -69,78 +70,82 @@ impl Session {
         shares_of(alloc, session, compaction.workers)
     }
 
-    /// The image, if no region has been written.
+    /// The image, if no region was claimed.
     fn into_image(self) -> Option<Image>
         ensures { IfSome result (λ image. image ≡ self.shared.survey) }
     {
-        self.shared.into_image()
+        let Session { shared, .. } = self;
+        let Shared {
+            survey,
+            desk,
+            parts,
+            ..
+        } = shared;
+        moves_of_images();
+        let regions = desk.take_back()?;
+        Some(with_regions(parts, regions, survey.plan()))
     }
 
-    /// Lets a worker fill regions that are ready, at most `turns`. A fault of this worker stops the others.
-    fn work(&self, number: u32, worker: &mut Worker<Pass>, turns: u64) -> Result<Progress, Halt>
+    /// Lets a worker fill regions that are ready, at most `turns`.
+    fn work(&self, number: u32, worker: &mut Worker, turns: u64) -> Progress
         requires number { number < vec_len self.now.shared.thieves }
-        requires seat { board_of worker.old.seat ≡ identity self.now.shared.desk }
-        ensures seat { board_of worker.new.seat ≡ identity self.now.shared.desk }
-        ensures end { IfErr worker.new.result MayEnd }
-        ensures halt { IfErr result MayHalt }
+        requires seat { board_of worker.old.seat.pass ≡ identity self.now.shared.desk }
+        requires rest { Rests worker.old.seat.pass }
+        ensures seat { board_of worker.new.seat.pass ≡ identity self.now.shared.desk }
+        ensures rest { Rests worker.new.seat.pass }
     {
-        let task = FillTask {
-            shared: &self.shared,
-            gate: &OpenGate,
-            wait: &Tries { most: u64::MAX },
-        };
+        let task = self.task();
         match task.fill_ready(number, worker, turns, &Backoff::new()) {
-            Ok(progress) => {
-                worker.result = Ok(());
-                Ok(progress)
+            Ok(progress) => progress,
+            Err(end) => {
+                // No gate refuses, so nobody stops a worker. A region that it would have been stopped with is filled.
+                worker.result = Err(end);
+                task.fill_held(number, worker);
+                Progress::TurnsUsed
             }
-            Err(end) => Err(self.halt(worker, end)),
         }
     }
 
-    /// Keeps why a worker has ended. A fault of its own stops the others.
-    fn halt(&self, worker: &mut Worker<Pass>, end: End) -> Halt
-        requires { MayEnd end }
-        ensures seat { worker.new.seat ≡ worker.old.seat }
-        ensures end { IfErr worker.new.result MayEnd }
-        ensures halt { MayHalt result }
+    /// Lets a worker fill what is left, once no other works.
+    fn fill_rest(&self, number: u32, seat: &mut Seat)
+        requires seat { board_of seat.old.pass ≡ identity self.now.shared.desk }
+        requires rest { Rests seat.old.pass }
+        ensures seat { board_of seat.new.pass ≡ identity self.now.shared.desk }
+        ensures rest { Rests seat.new.pass }
     {
-        let halt = match end {
-            End::Failed(fault) => {
-                self.shared.stop.store(true, Ordering::SeqCst);
-                Halt::Failed(fault)
-            }
-            End::Stopped(_) => Halt::Stopped,
-        };
-        worker.result = Err(end);
-        halt
+        if !self.shared.desk.poll(&mut seat.pass) {
+            let filled = self.task().fill_rest(number, seat);
+            prove!(filled.is_ok());
+        }
     }
 
-    /// Lets a worker fill what is left, once no other works. Returns fault 15 if a cell contradicts the order of work.
-    fn fill_rest(&self, number: u32, pass: &mut Pass) -> Result<(), Fault>
-        requires { board_of pass.old ≡ identity self.now.shared.desk }
-        ensures seat { board_of pass.new ≡ identity self.now.shared.desk }
-        ensures fault { IfErr result IsOverwritten }
+    /// The compaction and its figures, if all regions to fill are settled. Uses the pass of the last worker.
+    fn finish(self, pass: Pass) -> Option<Outcome>
+        requires seat { board_of pass ≡ identity self.shared.desk }
+        requires bare { held pass ≡ [] }
+        ensures image { IfSome result (λ outcome. outcome.image ≡ compact self.shared.survey) }
+        ensures figures { IfSome result (λ outcome. outcome.figures ≡ figures_of self.shared.survey) }
     {
-        let task = FillTask {
+        let Session { shared, .. } = self;
+        let Shared {
+            survey,
+            desk,
+            parts,
+            ..
+        } = shared;
+        let moved = desk.into_settled(pass)?;
+        Some(clean_up(parts, moved, &survey, &Alone))
+    }
+
+    /// The task of the workers.
+    fn task(&self) -> FillTask<'_, '_, RegionBoard, OpenGate, Tries>
+        ensures { result.shared.now ≡ self.now.shared }
+    {
+        FillTask {
             shared: &self.shared,
             gate: &OpenGate,
             wait: &Tries { most: u64::MAX },
-        };
-        if self.shared.desk.poll(pass) {
-            return Ok(());
         }
-        task.fill_rest(number, pass)
-    }
-
-    /// Cleans up once no worker is left. Returns fault 15 if a region has not moved.
-    fn clean_up(self) -> Result<Outcome, Fault>
-        ensures image { IfOk result (λ outcome. outcome.image ≡ compact self.shared.survey) }
-        ensures figures { IfOk result (λ outcome. outcome.figures ≡ figures_of self.shared.survey) }
-        ensures fault { IfErr result IsOverwritten }
-    {
-        let (outcome, _, _) = self.shared.clean_up(&Alone)?;
-        Ok(outcome)
     }
 }
 

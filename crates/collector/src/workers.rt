@@ -2,7 +2,7 @@ pub(crate) mod end;
 pub(crate) mod fill_left;
 mod fill_rest;
 pub(crate) mod fill_task;
-pub(crate) mod held_ticket;
+pub(crate) mod held_region;
 pub(crate) mod queues;
 pub(crate) mod shared;
 pub(crate) mod start_line;

@@ -28,7 +28,7 @@ fn ended(alloc: Global, mut shares: Vec<Share>, after: &[u8]) -> Result<(Figures
 /// Lets each share take one turn.
 fn turn_each(shares: &mut [Share]) {
     for share in shares.iter_mut() {
-        let _worked = share.work(1);
+        let _progress = share.work(1);
     }
 }
 
@@ -76,7 +76,7 @@ fn by_turns(alloc: Global, text: &[u8]) -> Result<[Option<Progress>; 5], Fault> 
     let mut come = [None; 5];
     for (turns, found) in [0, 1, 1, 1, 1].into_iter().zip(come.iter_mut()) {
         if let Some(share) = shares.first_mut() {
-            *found = share.work(turns).ok();
+            *found = Some(share.work(turns));
         }
     }
     Ok(come)
@@ -88,6 +88,24 @@ fn a_share_works_by_turns(rt: HostRuntime) -> Result<(), Fail> {
     let (used, settled) = (Some(Progress::TurnsUsed), Some(Progress::Settled));
     let found = by_turns(rt.alloc(), &before)?;
     equal(&rt, found, [used, used, used, settled, settled]);
+    Ok(())
+}
+
+/// How far the only share of a session comes in one turn, once it has worked as long as there was something to fill.
+fn once_worked(alloc: Global, text: &[u8]) -> Result<Progress, Fault> {
+    let mut shares = shares_of(alloc, text, 1)?;
+    let Some(share) = shares.first_mut() else {
+        return Err(Fault::Workers);
+    };
+    share.work_all();
+    Ok(share.work(1))
+}
+
+#[test]
+fn a_share_works_until_all_regions_are_settled(rt: HostRuntime) -> Result<(), Fail> {
+    let before = Base::WithLiveList.text(rt.alloc(), 2)?;
+    let found = once_worked(rt.alloc(), &before)?;
+    equal(&rt, found, Progress::Settled);
     Ok(())
 }
 
@@ -149,7 +167,7 @@ fn is_given_back(alloc: Global, text: &[u8], turns: u64) -> Result<bool, Fault> 
     let Some(mut share) = shares.pop() else {
         return Err(Fault::Workers);
     };
-    let _worked = share.work(turns);
+    let _progress = share.work(turns);
     drop(shares);
     match share.give_back() {
         Some(image) => Ok(encode(alloc, &image)?.as_slice() == text),
@@ -158,7 +176,7 @@ fn is_given_back(alloc: Global, text: &[u8], turns: u64) -> Result<bool, Fault> 
 }
 
 #[test]
-fn an_image_comes_back_while_no_region_is_written(rt: HostRuntime) -> Result<(), Fail> {
+fn an_image_comes_back_while_no_region_is_claimed(rt: HostRuntime) -> Result<(), Fail> {
     let before = Base::WithLiveList.text(rt.alloc(), 2)?;
     equal(&rt, is_given_back(rt.alloc(), &before, 0)?, true);
     equal(&rt, is_given_back(rt.alloc(), &before, 9)?, false);

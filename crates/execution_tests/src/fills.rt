@@ -1,17 +1,17 @@
 //! Fills of heaps whose compactions are known.
-ghost use Rattle.std.specs.Prelude.{◌≡◌};
-ghost use Rattle.claim_board.specs.Boards.{identity, board_of};
+ghost use Rattle.std.specs.Prelude.{◌≡◌, []};
+ghost use Rattle.claim_board.specs.Boards.{board_of, held};
+ghost use Rattle.claim_board.specs.RegionBoards.{identity};
 
 use crate::checks::equal_items;
 use crate::heaps::{Heap, fill_in_order, heap_of, joined, moved_and_compacted};
-use claim_board::Pass;
+use claim_board::Seat;
 use fill::clear_above;
 use heap_image::{Fault, Image};
 use heap_samples::{BASE_LIVE, DEAD, Settings, base_image, image_of};
 use raw_region::Region;
 use std::alloc::{AllocError, Global};
 use std::process::Abort;
-use std::sync::Wait;
 use std::test::Fail;
 use std::thread::Threads;
 
@@ -58,17 +58,11 @@ impl Drop for Outcome {
 }
 
 /// The outcome of fills of this heap in this order.
-fn filled_heap<W: Wait>(
-    heap: Heap,
-    pass: Pass,
-    alloc: Global,
-    order: &[u32],
-    wait: &W,
-) -> Result<Outcome, Fault>
-    requires { board_of pass ≡ identity heap.board }
+fn filled_heap(heap: Heap, mut seat: Seat, alloc: Global, order: &[u32]) -> Result<Outcome, Fault>
+    requires { (board_of seat.pass ≡ identity heap.board) × (held seat.pass ≡ []) }
 {
-    let sources = fill_in_order(&heap, pass, alloc, order, wait)?;
-    let (moved, compacted) = moved_and_compacted(alloc, heap)?;
+    let sources = fill_in_order(&heap, &mut seat, alloc, order)?;
+    let (moved, compacted) = moved_and_compacted(alloc, heap, seat)?;
     Ok(Outcome {
         sources,
         moved,
@@ -77,38 +71,39 @@ fn filled_heap<W: Wait>(
 }
 
 /// The outcome of fills of this image in this order.
-fn filled_image<R: Threads + Wait + Sync>(
+fn filled_image<T: Threads + Sync>(
     alloc: Global,
-    image: Image,
+    image: &Image,
     order: &[u32],
-    rt: &R,
-) -> Result<Outcome, Fail> {
-    let (heap, pass) = heap_of(alloc, image, rt)?;
-    Ok(filled_heap(heap, pass, alloc, order, rt)?)
+    threads: &T,
+) -> Result<Outcome, Fault> {
+    let (heap, seat) = heap_of(alloc, image, threads)?;
+    filled_heap(heap, seat, alloc, order)
 }
 
 /// The outcome of fills in this order of the heap with these words, live addresses and allowance, in regions of 8
 /// words.
-fn filled<R: Threads + Wait + Sync>(
+fn filled<T: Threads + Sync>(
     alloc: Global,
     allowance: u64,
     (words, live): (&[[u64; 8]], &[u64]),
     order: &[u32],
-    rt: &R,
+    threads: &T,
 ) -> Result<Outcome, Fail> {
     let settings = Settings::of_base(allowance);
-    let image = image_of(alloc, settings, words.as_flattened(), live, rt)?;
-    filled_image(alloc, image, order, rt)
+    let image = image_of(alloc, settings, words.as_flattened(), live, threads)?;
+    Ok(filled_image(alloc, &image, order, threads)?)
 }
 
 /// The outcome of fills of the base heap in this order.
-fn filled_base<R: Threads + Wait + Sync>(
+fn filled_base<T: Threads + Sync>(
     alloc: Global,
     allowance: u64,
     order: &[u32],
-    rt: &R,
+    threads: &T,
 ) -> Result<Outcome, Fail> {
-    filled_image(alloc, base_image(alloc, allowance, &BASE_LIVE)?, order, rt)
+    let image = base_image(alloc, allowance, &BASE_LIVE)?;
+    Ok(filled_image(alloc, &image, order, threads)?)
 }
 
 /// Fails the test unless these are the words once the regions are filled, and once the heap is compacted.

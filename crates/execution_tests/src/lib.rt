@@ -12,6 +12,8 @@ mod fills;
 #[cfg(test)]
 mod heaps;
 #[cfg(test)]
+mod kept;
+#[cfg(test)]
 mod memory;
 #[cfg(test)]
 mod overwritten;

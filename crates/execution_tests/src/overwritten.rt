@@ -1,181 +1,114 @@
-//! Fault 15: reads, writes and fills of a base-heap region that is being written, was filled, or was given up. The
-//! rights and openings come from other boards.
-ghost use Rattle.std.specs.Prelude.{◌≡◌, ◌<◌, IfOk};
-ghost use Rattle.object_heap.specs.HeapImage.{region_count};
-ghost use Rattle.claim_board.specs.Boards.{identity, board_of};
+//! Fault 15: reads and writes of a base-heap region in a cell that has moved or was given up, and the ends of such cells.
+//! The moved words are those of fills over a board. The rights and openings come from other boards.
+ghost use Rattle.std.specs.Prelude.{◌≡◌, ◌<◌, ◌≤◌, length, IfOk};
+ghost use Rattle.object_heap.specs.HeapImage.{region_words, region_count};
+ghost use Rattle.region_cells.specs.Blocks.{moved_block};
+ghost use Rattle.fill.specs.MovedHeap.{moved_regions};
 
-use crate::checks::equal;
-use crate::heaps::{Heap, end_fault_of, fill, fill_below, heap_of};
-use crate::setups::{base_of_four, read_and_write_faults, right, write_fault};
-use claim_board::Pass;
+use crate::checks::{equal, holds};
+use crate::heaps::{fill_below, heap_of};
+use crate::setups::{base_of_four, cells_of, end_fault, read_and_write_faults, right, write_fault};
 use heap_image::Fault;
 use heap_samples::BASE_LIVE;
+use raw_region::Region;
+use region_cells::{Cells, Target};
 use std::alloc::Global;
 use std::sync::Wait;
 use std::test::Fail;
 use std::thread::Threads;
 
-/// The base heap, and the pass of its only worker.
-fn base_heap<T: Threads + Sync>(alloc: Global, threads: &T) -> Result<(Heap, Pass), Fail>
-    ensures pass { IfOk result (λ made. board_of made.1 ≡ identity made.0.board) }
-    ensures regions { IfOk result (λ made. region_count made.0.cells ≡ 4) }
-{
-    heap_of(alloc, base_of_four(alloc, 0, &BASE_LIVE)?, threads)
+/// The base heap in cells, and its regions once they have moved.
+#[derive(Drop)]
+struct Base {
+    cells: Cells,
+    moved: Vec<Region>,
+    ghost four: { region_count cells ≡ 4 },
+    ghost are_moved: { moved.items ≡ moved_regions cells },
 }
 
-/// The fault of a fill of region 0, and the number of sources that it reported as last drained.
-fn fill_fault<W: Wait>(
-    heap: &Heap,
-    mut pass: Pass,
-    alloc: Global,
-    wait: &W,
-) -> (Option<Fault>, usize)
-    requires { board_of pass ≡ identity heap.now.board }
-{
-    let mut sources = Vec::new(alloc);
-    let fault = fill(heap, &mut pass, &mut sources, 0, wait).err();
-    (fault, sources.len())
+/// Puts the base heap into cells, and fills copies of its regions.
+fn base_in_cells<T: Threads + Sync>(alloc: Global, threads: &T) -> Result<Base, Fail> {
+    let image = base_of_four(alloc, 0, &BASE_LIVE)?;
+    let (heap, mut seat) = heap_of(alloc, &image, threads)?;
+    let end = heap.survey.plan().fill_regions();
+    fill_below(&heap, &mut seat, alloc, end);
+    let (survey, moved) = heap.into_moved(alloc, seat)?;
+    let cells = cells_of(alloc, image, survey.plan())?;
+    Ok(Base { cells, moved })
 }
 
-/// The same while another writer has `region`.
-fn fill_fault_while_written<W: Wait>(
-    heap: &Heap,
-    pass: Pass,
-    alloc: Global,
-    region: u32,
-    wait: &W,
-) -> Result<(Option<Fault>, usize), Fail>
-    requires pass { board_of pass ≡ identity heap.now.board }
-    requires regions { region_count heap.now.cells ≡ 4 }
-    requires inside { region < 4 }
+/// Writes the words of a region over those of a target.
+fn write_words(target: &mut Target<'_>, words: &Region)
+    requires target { length target.old.words ≡ region_words target.old.image }
+    requires words { length words.now ≡ region_words target.old.image }
+    ensures words { target.new.words ≡ words.now }
+    ensures same { (target.new.image ≡ target.old.image) × (target.new.right ≡ target.old.right) }
 {
-    let target = heap.cells.write(right(alloc, region)?, wait)?;
-    let found = fill_fault(heap, pass, alloc, wait);
-    target.give_up();
-    Ok(found)
-}
-
-/// The same in the base heap.
-fn base_fault_while_written<R: Threads + Wait + Sync>(
-    alloc: Global,
-    region: u32,
-    rt: &R,
-) -> Result<(Option<Fault>, usize), Fail>
-    requires { region < 4 }
-{
-    let (heap, pass) = base_heap(alloc, rt)?;
-    fill_fault_while_written(&heap, pass, alloc, region, rt)
-}
-
-#[test]
-fn a_fill_fails_at_a_region_that_is_being_written(rt: HostRuntime) -> Result<(), Fail> {
-    for region in [0, 1] {
-        let found = base_fault_while_written(rt.alloc(), region, &rt)?;
-        equal(&rt, found, (Some(Fault::Overwritten(region)), 0));
+    for i in 0..words.len() {
+        target.set(i, words.get(i));
     }
-    Ok(())
 }
 
-/// The faults of a write of region 1 that is given up, of a fill of region 0, and of a write of region 0; and the
-/// number of sources that the fill reported as last drained.
-type Spoiled = ([Option<Fault>; 3], usize);
-
-fn spoil<W: Wait>(heap: &Heap, pass: Pass, alloc: Global, wait: &W) -> Result<Spoiled, Fail>
-    requires pass { board_of pass ≡ identity heap.now.board }
-    requires regions { region_count heap.now.cells ≡ 4 }
+/// The moved words of a region.
+fn moved_words(base: &Base, region: u32) -> &Region
+    requires { region < 4 }
+    ensures words { result.now ≡ moved_block base.now.cells region }
+    ensures length { length result.now ≡ region_words base.now.cells }
 {
-    let given_up = write_fault(&heap.cells, alloc, 1, wait)?;
-    let (filled, count) = fill_fault(heap, pass, alloc, wait);
-    let written = write_fault(&heap.cells, alloc, 0, wait)?;
-    Ok(([given_up, filled, written], count))
+    &base.moved[region as usize]
 }
 
-/// The same, and the fault with which the cells end.
-fn spoil_to_the_end<W: Wait>(
-    heap: Heap,
-    pass: Pass,
-    alloc: Global,
-    wait: &W,
-) -> Result<(Spoiled, Option<Fault>), Fail>
-    requires pass { board_of pass ≡ identity heap.board }
-    requires regions { region_count heap.cells ≡ 4 }
-{
-    let found = spoil(&heap, pass, alloc, wait)?;
-    Ok((found, end_fault_of(heap)))
-}
-
-/// The same in the base heap.
-fn spoil_base<R: Threads + Wait + Sync>(
-    alloc: Global,
-    rt: &R,
-) -> Result<(Spoiled, Option<Fault>), Fail> {
-    let (heap, pass) = base_heap(alloc, rt)?;
-    spoil_to_the_end(heap, pass, alloc, rt)
-}
-
-#[test]
-fn a_fill_fails_at_a_source_that_was_given_up(rt: HostRuntime) -> Result<(), Fail> {
-    let spoiled = Some(Fault::Overwritten(0));
-    equal(
-        &rt,
-        spoil_base(rt.alloc(), &rt)?,
-        (([None, Some(Fault::Overwritten(1)), spoiled], 0), spoiled),
-    );
-    Ok(())
-}
-
-/// Whether all regions below `end` were filled, and the faults of a read and a write of a region afterwards.
-type Filled = (bool, [Option<Fault>; 2]);
-
-fn fill_and_open<R: AllocGlobal + Wait>(
-    heap: &Heap,
-    pass: Pass,
-    end: u32,
-    region: u32,
-    rt: &R,
-) -> Result<Filled, Fail>
-    requires pass { board_of pass ≡ identity heap.now.board }
-    requires regions { region_count heap.now.cells ≡ 4 }
-    requires inside { region < 4 }
-{
-    let are_filled = fill_below(heap, pass, rt.alloc(), end, rt)?;
-    let faults = read_and_write_faults(&heap.cells, rt.alloc(), region, rt)?;
-    Ok((are_filled, faults))
-}
-
-/// The same, and the fault with which the cells end.
-fn fill_to_the_end<R: AllocGlobal + Wait>(
-    heap: Heap,
-    pass: Pass,
-    end: u32,
-    region: u32,
-    rt: &R,
-) -> Result<(Filled, Option<Fault>), Fail>
-    requires pass { board_of pass ≡ identity heap.board }
-    requires regions { region_count heap.cells ≡ 4 }
-    requires inside { region < 4 }
-{
-    let found = fill_and_open(&heap, pass, end, region, rt)?;
-    Ok((found, end_fault_of(heap)))
-}
-
-/// The same in the base heap.
-fn fill_base<R: AllocGlobal + Threads + Wait + Sync>(
-    end: u32,
-    region: u32,
-    rt: &R,
-) -> Result<(Filled, Option<Fault>), Fail>
+/// Writes the moved words of a region and puts it back. Returns whether it is that region.
+fn move_region<W: Wait>(base: &Base, alloc: Global, region: u32, wait: &W) -> Result<bool, Fail>
     requires { region < 4 }
 {
-    let (heap, pass) = base_heap(rt.alloc(), rt)?;
-    fill_to_the_end(heap, pass, end, region, rt)
+    let mut target = base.cells.write(right(alloc, region)?, wait)?;
+    write_words(&mut target, moved_words(base, region));
+    let (written, placed) = target.put();
+    written.give_up();
+    Ok(placed.region() == region)
+}
+
+/// Moves the regions below `end`, and returns the faults of a read and a write of a region afterwards.
+fn move_and_open<W: Wait>(
+    base: &Base,
+    alloc: Global,
+    end: u32,
+    region: u32,
+    wait: &W,
+) -> Result<(bool, [Option<Fault>; 2]), Fail>
+    requires { (end ≤ 4) × (region < 4) }
+{
+    let mut are_moved = true;
+    for number in 0..end {
+        are_moved &= move_region(base, alloc, number, wait)?;
+    }
+    let faults = read_and_write_faults(&base.cells, alloc, region, wait)?;
+    Ok((are_moved, faults))
+}
+
+/// Whether all regions below `end` were moved, the faults of a read and a write of a region afterwards, and the fault with
+/// which the cells end.
+type Moved = ((bool, [Option<Fault>; 2]), Option<Fault>);
+
+fn move_base<R: AllocGlobal + Threads + Wait + Sync>(
+    end: u32,
+    region: u32,
+    rt: &R,
+) -> Result<Moved, Fail>
+    requires { (end ≤ 4) × (region < 4) }
+{
+    let base = base_in_cells(rt.alloc(), rt)?;
+    let found = move_and_open(&base, rt.alloc(), end, region, rt)?;
+    let Base { cells, moved: _ } = base;
+    Ok((found, end_fault(cells)))
 }
 
 #[test]
-fn a_region_that_was_filled_cannot_be_opened(rt: HostRuntime) -> Result<(), Fail> {
+fn a_region_that_has_moved_cannot_be_opened(rt: HostRuntime) -> Result<(), Fail> {
     equal(
         &rt,
-        fill_base(2, 1, &rt)?,
+        move_base(2, 1, &rt)?,
         (
             (true, [Some(Fault::Overwritten(1)); 2]),
             Some(Fault::Overwritten(2)),
@@ -188,8 +121,61 @@ fn a_region_that_was_filled_cannot_be_opened(rt: HostRuntime) -> Result<(), Fail
 fn cells_end_although_another_region_was_opened(rt: HostRuntime) -> Result<(), Fail> {
     equal(
         &rt,
-        fill_base(3, 3, &rt)?,
+        move_base(3, 3, &rt)?,
         ((true, [None, Some(Fault::Overwritten(3))]), None),
     );
+    Ok(())
+}
+
+/// The fault of a write of region 1 that is given up, and of a read and a write of it afterwards; and whether region 0 is
+/// moved then.
+type Spoiled = (Option<Fault>, [Option<Fault>; 2], bool);
+
+fn spoil<W: Wait>(base: &Base, alloc: Global, wait: &W) -> Result<Spoiled, Fail> {
+    let given_up = write_fault(&base.cells, alloc, 1, wait)?;
+    let faults = read_and_write_faults(&base.cells, alloc, 1, wait)?;
+    Ok((given_up, faults, move_region(base, alloc, 0, wait)?))
+}
+
+/// The same, and the fault with which the cells end.
+fn spoil_base<R: Threads + Wait + Sync>(
+    alloc: Global,
+    rt: &R,
+) -> Result<(Spoiled, Option<Fault>), Fail> {
+    let base = base_in_cells(alloc, rt)?;
+    let found = spoil(&base, alloc, rt)?;
+    let Base { cells, moved: _ } = base;
+    Ok((found, end_fault(cells)))
+}
+
+#[test]
+fn a_region_that_was_given_up_is_lost(rt: HostRuntime) -> Result<(), Fail> {
+    let spoiled = Some(Fault::Overwritten(1));
+    equal(
+        &rt,
+        spoil_base(rt.alloc(), &rt)?,
+        ((None, [spoiled; 2], true), spoiled),
+    );
+    Ok(())
+}
+
+/// The regions that come out of the cells once each that is to be filled has moved.
+fn end_moved<R: AllocGlobal + Threads + Wait + Sync>(rt: &R) -> Result<bool, Fail> {
+    let base = base_in_cells(rt.alloc(), rt)?;
+    let (are_moved, _faults) = move_and_open(&base, rt.alloc(), 3, 3, rt)?;
+    let Base { cells, moved } = base;
+    let parts = cells.into_regions()?;
+    Ok(are_moved && are_same(parts.regions.as_slice(), moved.as_slice()))
+}
+
+/// Whether the regions of both lists have the same words.
+fn are_same(one: &[Region], other: &[Region]) -> bool {
+    let mut pairs = one.iter().zip(other);
+    one.len() == other.len() && pairs.all(|(a, b)| a.words() == b.words())
+}
+
+#[test]
+fn cells_end_with_the_moved_regions(rt: HostRuntime) -> Result<(), Fail> {
+    holds(&rt, end_moved(&rt)?);
     Ok(())
 }

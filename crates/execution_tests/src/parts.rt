@@ -1,19 +1,17 @@
 //! The update of deferred objects of larger heaps by several threads.
-ghost use Rattle.std.specs.Prelude.{◌≡◌};
-ghost use Rattle.claim_board.specs.Boards.{identity, board_of};
+ghost use Rattle.std.specs.Prelude.{◌≡◌, []};
+ghost use Rattle.claim_board.specs.Boards.{board_of, held};
+ghost use Rattle.claim_board.specs.RegionBoards.{identity};
 
 use crate::checks::{equal, holds};
 use crate::heaps::{Heap, fill_below, heap_of, joined};
-use claim_board::Pass;
+use claim_board::Seat;
 use fill::{clear_above, update_deferred};
 use heap_image::{Fault, Image};
 use heap_samples::{DEAD, Settings, image_of};
-use region_cells::Cells;
 use std::alloc::{AllocError, Global};
-use std::sync::Wait;
 use std::test::Fail;
 use std::thread::Threads;
-use summary::Survey;
 use thread_row::Many;
 
 /// The number of regions of 8 words in a heap: enough for several threads.
@@ -61,26 +59,18 @@ fn region_starts(alloc: Global) -> Result<Vec<u64>, AllocError> {
 }
 
 /// The words of the compaction, with the deferred objects updated by `workers` workers.
-fn compacted_by<R: Threads + Wait + Sync>(
+fn compacted_by<R: Threads + Sync>(
     rt: &R,
     alloc: Global,
-    image: Image,
+    image: &Image,
     workers: usize,
-) -> Result<Vec<u64>, Fail> {
-    let (heap, pass) = heap_of(alloc, image, rt)?;
-    fill_all(&heap, pass, alloc, rt)?;
-    Ok(updated_by(rt, alloc, heap, workers)?)
-}
-
-/// Fills all regions to fill.
-fn fill_all<W: Wait>(heap: &Heap, pass: Pass, alloc: Global, wait: &W) -> Result<(), Fail>
-    requires { board_of pass ≡ identity heap.now.board }
-{
+) -> Result<Vec<u64>, Fault> {
+    let (heap, mut seat) = heap_of(alloc, image, rt)?;
     let end = heap.survey.plan().fill_regions();
-    if fill_below(heap, pass, alloc, end, wait)? {
-        Ok(())
+    if fill_below(&heap, &mut seat, alloc, end) {
+        updated_by(rt, alloc, heap, seat, workers)
     } else {
-        Err(Fail::from("a region is not granted"))
+        Err(Fault::Gate)
     }
 }
 
@@ -89,44 +79,34 @@ fn updated_by<R: Threads + Sync>(
     rt: &R,
     alloc: Global,
     heap: Heap,
-    workers: usize,
-) -> Result<Vec<u64>, Fault> {
-    let (survey, cells) = heap.into_survey_and_cells();
-    updated_cells(rt, alloc, cells, &survey, workers)
-}
-
-fn updated_cells<R: Threads + Sync>(
-    rt: &R,
-    alloc: Global,
-    cells: Cells,
-    survey: &Survey,
+    seat: Seat,
     workers: usize,
 ) -> Result<Vec<u64>, Fault>
-    requires { cells ≡ survey.now }
+    requires { (board_of seat.pass ≡ identity heap.board) × (held seat.pass ≡ []) }
 {
-    let mut parts = cells.into_regions()?;
+    let (survey, mut regions) = heap.into_moved(alloc, seat)?;
     let many = Many {
         threads: rt,
         most: workers,
     };
-    update_deferred(parts.regions.as_mut_slice(), survey, &many);
-    clear_above(parts.regions.as_mut_slice(), survey.plan().new_top());
-    Ok(joined(alloc, parts.regions.as_slice())?)
+    update_deferred(regions.as_mut_slice(), &survey, &many);
+    clear_above(regions.as_mut_slice(), survey.plan().new_top());
+    Ok(joined(alloc, regions.as_slice())?)
 }
 
 /// Whether `workers` workers compact the heap of these words and live addresses to `expected`.
-fn is_compacted<R: AllocGlobal + Threads + Wait + Sync>(
+fn is_compacted<R: AllocGlobal + Threads + Sync>(
     rt: &R,
     (words, live): (&[u64], &[u64]),
     workers: usize,
     expected: &[u64],
 ) -> Result<bool, Fail> {
     let image = image_of(rt.alloc(), Settings::of_base(0), words, live, rt)?;
-    Ok(compacted_by(rt, rt.alloc(), image, workers)?.as_slice() == expected)
+    Ok(compacted_by(rt, rt.alloc(), &image, workers)?.as_slice() == expected)
 }
 
 /// Whether `workers` workers compact the heap with an object in each region to `expected`.
-fn rows_are_compacted<R: AllocGlobal + Threads + Wait + Sync>(
+fn rows_are_compacted<R: AllocGlobal + Threads + Sync>(
     rt: &R,
     expected: &[u64],
     workers: usize,

@@ -1,25 +1,23 @@
 //! What a recorder keeps of fills of the base heap: how many words are reported, and when.
-ghost use Rattle.std.specs.Prelude.{◌≡◌, ◌<◌, IfOk};
-ghost use Rattle.scheduler.specs.ImageMoves.{image_table};
-ghost use Rattle.claim_board.specs.Recorders.{moves as moves_of, worker_count};
-ghost use Rattle.claim_board.specs.Tickets.{IsUnused};
+ghost use Rattle.std.specs.Prelude.{◌≡◌, [], IfOk};
+ghost use Rattle.claim_board.specs.Boards.{board_of, held};
+ghost use Rattle.claim_board.specs.RegionBoards.{identity};
+ghost use Rattle.fill.specs.KeptImages.{KeepsImage};
 
 use crate::checks::{equal, equal_items};
-use crate::heaps::survey_and_cells;
-use crate::setups::moves_of_four;
-use claim_board::{Desk, Done, Recorder, Ticket};
-use fill::fill_region;
-use heap_image::Fault;
+use crate::heaps::fill;
+use crate::kept::keep;
+use claim_board::{Desk, Recorder, Seat};
+use fill::Filler;
 use heap_samples::{BASE_LIVE, base_image};
 use history::write_schedule;
-use region_cells::Cells;
-use scheduler::{Schedule, moves_of_images};
-use std::alloc::Global;
+use scheduler::{Book, CallFault, moves_of_images};
+use std::alloc::{AllocError, Global};
 use std::sync::Wait;
 use std::test::Fail;
 use std::thread::Threads;
 use summary::Survey;
-use summary::laws::region_data::regions_to_fill;
+use thread_row::Many;
 
 /// The schedule of fills with allowance 0.
 const SLID: &str = "schedule 1 1
@@ -66,177 +64,113 @@ const AFTER_PREFIX: &str = "schedule 1 1
 ";
 
 /// A heap and a recorder of its fills by one worker.
+#[derive(Drop)]
 struct RecordedHeap {
     survey: Survey,
-    cells: Cells,
     recorder: Recorder,
-    ghost cells_are: { cells ≡ survey },
-    ghost moves_are: { moves_of recorder ≡ image_table survey },
-    ghost alone: { worker_count recorder ≡ 1 },
+    ghost keeps: { KeepsImage survey recorder.board },
 }
 
-impl Drop for RecordedHeap {
-    fn drop(self) {
-        let Self {
-            survey,
-            cells,
-            recorder,
-        } = self;
-    }
-}
-
-impl RecordedHeap {
-    /// The schedule that the recorder has kept.
-    fn into_schedule(self) -> Schedule {
-        let RecordedHeap {
-            survey: _,
-            cells: _,
-            recorder,
-        } = self;
-        recorder.into_schedule()
-    }
-}
-
-/// The base heap with this allowance and an empty recorder.
+/// The base heap with this allowance, an empty recorder, and the seat of its only worker.
 fn base_heap<T: Threads + Sync>(
     alloc: Global,
     allowance: u64,
     threads: &T,
-) -> Result<RecordedHeap, Fail> {
+) -> Result<(RecordedHeap, Seat), Fail>
+    ensures { IfOk result (λ made. (board_of made.1.pass ≡ identity made.0.recorder.board) × (held made.1.pass ≡ [])) }
+{
     let image = base_image(alloc, allowance, &BASE_LIVE)?;
-    let (survey, cells) = survey_and_cells(alloc, image, threads)?;
-    heap_with_recorder(alloc, survey, cells)
+    let survey = Survey::of(alloc, &image, &Many { threads, most: 2 })?;
+    let (board, seat) = keep(alloc, &image, survey.plan())?;
+    let book = Book::new(alloc, survey.plan(), 1)?;
+    let recorder = Recorder::new(board, book);
+    Ok((RecordedHeap { survey, recorder }, seat))
 }
 
-fn heap_with_recorder(alloc: Global, survey: Survey, cells: Cells) -> Result<RecordedHeap, Fail>
-    requires { cells ≡ survey }
+/// Tries to fill the four regions in ascending order. Returns the sources that the fills report as last drained.
+fn fill_four<W: Wait>(heap: &RecordedHeap, seat: &mut Seat, alloc: Global, wait: &W) -> Vec<u32>
+    requires board { board_of seat.old.pass ≡ identity heap.now.recorder.board }
+    requires bare { held seat.old.pass ≡ [] }
 {
-    let recorder = Recorder::new(alloc, survey.plan(), 1)?;
-    Ok(RecordedHeap {
-        survey,
-        cells,
-        recorder,
-    })
-}
-
-/// Fills the region of a ticket, and ignores the last drains.
-fn fill_of<W: Wait>(
-    heap: &RecordedHeap,
-    seat: &mut u32,
-    ticket: Ticket,
-    wait: &W,
-) -> Result<Done, Fault>
-    requires seat { seat.old < 1 }
-    requires ticket { IsUnused ticket }
-    ensures seat { seat.new < 1 }
-{
-    let (done, _placed) = fill_region(
-        &heap.recorder,
-        &heap.cells,
-        &heap.survey,
-        seat,
-        ticket,
-        &mut |_source: u32| {},
+    let filler = Filler {
+        desk: &heap.recorder,
+        survey: &heap.survey,
         wait,
-    )?;
-    Ok(done)
-}
-
-/// Claims, fills and settles a region. Returns false if it is not to be filled, or cannot be claimed.
-fn fill_recorded<W: Wait>(heap: &RecordedHeap, region: u32, wait: &W) -> Result<bool, Fault> {
-    moves_of_images();
-    regions_to_fill();
-    let _regions = heap.survey.plan().regions();
-    if region >= heap.survey.plan().fill_regions() {
-        return Ok(false);
-    }
-    let mut seat = 0;
-    let Some(ticket) = heap.recorder.claim(&mut seat, region, wait)? else {
-        return Ok(false);
     };
-    let done = fill_of(heap, &mut seat, ticket, wait)?;
-    let _all = heap.recorder.settle(&mut seat, done, wait)?;
-    Ok(true)
+    let mut sources = Vec::new(alloc);
+    for region in 0..4 {
+        fill(&filler, seat, &mut sources, region);
+    }
+    sources
 }
 
-/// The schedule of fills of the base heap with this allowance, in ascending order.
+/// The schedule that the recorder has kept, and why calls are missing.
+fn schedule_of(
+    alloc: Global,
+    heap: RecordedHeap,
+) -> Result<(Vec<u8>, Option<CallFault>), AllocError> {
+    let RecordedHeap {
+        survey: _,
+        recorder,
+    } = heap;
+    let (_board, schedule, missing) = recorder.into_parts();
+    Ok((write_schedule(alloc, &schedule)?, missing))
+}
+
+/// The schedule of fills of the base heap with this allowance, in ascending order, and why calls are missing.
 fn base_schedule<R: Threads + Wait + Sync>(
     alloc: Global,
     allowance: u64,
     rt: &R,
-) -> Result<Vec<u8>, Fail> {
-    let heap = base_heap(alloc, allowance, rt)?;
-    fill_four(&heap, rt)?;
-    Ok(write_schedule(alloc, &heap.into_schedule())?)
-}
-
-/// Tries to fill the four regions in ascending order.
-fn fill_four<W: Wait>(heap: &RecordedHeap, wait: &W) -> Result<(), Fault> {
-    for region in 0..4 {
-        let _filled = fill_recorded(heap, region, wait)?;
-    }
-    Ok(())
-}
-
-/// A ticket from another recorder, of four regions that are all to be filled.
-fn other_ticket<W: Wait>(alloc: Global, region: u32, wait: &W) -> Result<Ticket, Fail>
-    requires { region < 4 }
-    ensures { IfOk result (λ ticket. (ticket.region ≡ region) × IsUnused ticket) }
-{
-    let moves = moves_of_four(alloc, [].as_slice())?;
-    let recorder = Recorder::new(alloc, &moves, 1)?;
-    let mut seat = 0;
-    match recorder.claim(&mut seat, region, wait)? {
-        Some(ticket) => Ok(ticket),
-        None => Err(Fail::from("the region was not claimed")),
-    }
-}
-
-/// The fault of a fill with a ticket from another recorder.
-fn foreign_fault<W: Wait>(
-    heap: &RecordedHeap,
-    alloc: Global,
-    region: u32,
-    wait: &W,
-) -> Result<Option<Fault>, Fail>
-    requires { region < 4 }
-{
-    let ticket = other_ticket(alloc, region, wait)?;
-    let mut seat = 0;
-    match fill_of(heap, &mut seat, ticket, wait) {
-        Ok(done) => {
-            done.give_up();
-            Ok(None)
-        }
-        Err(fault) => Ok(Some(fault)),
-    }
-}
-
-/// The fault of a fill of region 3 of the base heap, and whether nothing was recorded.
-fn fault_at_region_3<R: Threads + Wait + Sync>(
-    alloc: Global,
-    rt: &R,
-) -> Result<(Option<Fault>, bool), Fail> {
-    let heap = base_heap(alloc, 0, rt)?;
-    let fault = foreign_fault(&heap, alloc, 3, rt)?;
-    Ok((fault, heap.into_schedule().is_empty()))
-}
-
-#[test]
-fn a_region_that_is_not_to_be_filled_is_refused(rt: HostRuntime) -> Result<(), Fail> {
-    equal(
-        &rt,
-        fault_at_region_3(rt.alloc(), &rt)?,
-        (Some(Fault::Overwritten(3)), true),
-    );
-    Ok(())
+) -> Result<(Vec<u8>, Option<CallFault>), Fail> {
+    let (heap, mut seat) = base_heap(alloc, allowance, rt)?;
+    let _sources = fill_four(&heap, &mut seat, alloc, rt);
+    Ok(schedule_of(alloc, heap)?)
 }
 
 #[test]
 fn the_words_are_reported_before_each_drain(rt: HostRuntime) -> Result<(), Fail> {
     for (allowance, schedule) in [(0, SLID), (2, AFTER_PREFIX)] {
-        let text = base_schedule(rt.alloc(), allowance, &rt)?;
+        let (text, missing) = base_schedule(rt.alloc(), allowance, &rt)?;
         equal_items(&rt, text.as_slice(), schedule.as_bytes());
+        equal(&rt, missing, None);
     }
+    Ok(())
+}
+
+/// Whether region 3 is granted. Gives it up if it is.
+fn is_granted<W: Wait>(heap: &RecordedHeap, seat: &mut Seat, wait: &W) -> Result<bool, Fail>
+    requires board { board_of seat.old.pass ≡ identity heap.now.recorder.board }
+    requires bare { held seat.old.pass ≡ [] }
+{
+    moves_of_images();
+    if heap.survey.plan().regions() != 4 {
+        return Err(Fail::from("not four regions"));
+    }
+    match heap.recorder.claim(seat, 3, wait) {
+        Some((ticket, _region)) => {
+            ticket.give_up();
+            Ok(true)
+        }
+        None => Ok(false),
+    }
+}
+
+/// Whether region 3 of the base heap is granted, and the schedule of that claim.
+fn claimed_region_3<R: Threads + Wait + Sync>(
+    alloc: Global,
+    rt: &R,
+) -> Result<(bool, Vec<u8>), Fail> {
+    let (heap, mut seat) = base_heap(alloc, 0, rt)?;
+    let is_granted = is_granted(&heap, &mut seat, rt)?;
+    let (text, _missing) = schedule_of(alloc, heap)?;
+    Ok((is_granted, text))
+}
+
+#[test]
+fn a_region_that_is_not_to_be_filled_is_refused(rt: HostRuntime) -> Result<(), Fail> {
+    let (is_granted, text) = claimed_region_3(rt.alloc(), &rt)?;
+    equal(&rt, is_granted, false);
+    equal_items(&rt, text.as_slice(), b"schedule 1 1\n0 claim 3 no\n");
     Ok(())
 }

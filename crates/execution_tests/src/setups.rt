@@ -77,7 +77,7 @@ pub fn board_of_four(alloc: Global, pairs: &[(u32, u32)]) -> Result<(GivenMoves,
 }
 
 /// The moves of four regions, all to be filled, with these pairs.
-pub fn moves_of_four(alloc: Global, pairs: &[(u32, u32)]) -> Result<GivenMoves, Fail>
+fn moves_of_four(alloc: Global, pairs: &[(u32, u32)]) -> Result<GivenMoves, Fail>
     ensures { IfOk result (λ moves. table_regions moves ≡ 4) }
 {
     let fill = Vec::from_slice(alloc, [true; 4].as_slice())?;
@@ -91,8 +91,8 @@ pub fn moves_of_four(alloc: Global, pairs: &[(u32, u32)]) -> Result<GivenMoves, 
 }
 
 /// A board for these moves, and the pass of its only worker.
-pub fn board_for_one<M: Moves>(alloc: Global, moves: &M) -> Result<(Board, Pass), Fail>
-    ensures moves { IfOk result (λ made. moves_of made.0 ≡ M.table moves.now) }
+fn board_for_one(alloc: Global, moves: &GivenMoves) -> Result<(Board, Pass), Fail>
+    ensures moves { IfOk result (λ made. moves_of made.0 ≡ moves.now) }
     ensures pass { IfOk result (λ made. board_of made.1 ≡ identity made.0) }
 {
     let (board, mut passes) = Board::new(alloc, moves, 1)?;

@@ -12,4 +12,4 @@ pub mod Gaps
 pub mod Draining
 pub mod Parts
 pub mod Reaching
-pub mod Targets
+pub mod WrittenWords

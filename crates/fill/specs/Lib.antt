@@ -3,8 +3,8 @@ pub mod WordBlocks
 pub mod CopiedWords
 pub mod Runs
 pub mod Objects
-pub mod Targets
+pub mod WrittenWords
 pub mod SourceRegions
+pub mod KeptImages
 pub mod FillTickets
 pub mod SourceDrains
-pub mod FillFaults

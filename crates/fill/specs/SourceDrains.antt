@@ -53,19 +53,18 @@ abbrev pub ReportsLast : {F : Type 0} → (F → ℕ → F → Type 0) → ℕ �
 ReportsLast step s Last f f' = step f s f'
 ReportsLast step s NotLast f f' = f ≡ f'
 
-module _ {F : Type 0} (step : F → ℕ → F → Type 0) (tells : Type 0) (m : MoveTable) (d : ℕ) where
-  -- The other sources of region d below `next` were drained once each, in ascending order, and f was called with
-  -- exactly those whose drain returned Last, in this order. If the desk shows calls, the caller made these drains and
-  -- no others.
+module _ {F : Type 0} (step : F → ℕ → F → Type 0) (m : MoveTable) (d : ℕ) where
+  -- The caller drained the other sources of region d below `next` once each, in ascending order, and made no other call.
+  -- f was called with exactly those whose drain returned Last, in this order.
   pub record HasDrained (next : ℕ) (old new : Caller) (f f' : F) : Type 0 where
     pub drains : List SourceDrain
     pub each : sources_of drains ≡ other_sources_below m d next
     pub reported : FoldsTo step f (last_sources drains) f'
-    pub gains : tells → GainsAll old new (drain_calls old.worker d drains)
+    pub gains : GainsAll old new (drain_calls old.worker d drains)
 
   -- The same for all other sources of region d; then the caller completed d.
   pub record HasFilled (old new : Caller) (f f' : F) : Type 0 where
     pub drains : List SourceDrain
     pub each : sources_of drains ≡ other_sources m d
     pub reported : FoldsTo step f (last_sources drains) f'
-    pub gains : tells → GainsAll old new (drain_calls old.worker d drains ++ entry old.worker (Complete d) Done ∷ [])
+    pub gains : GainsAll old new (drain_calls old.worker d drains ++ entry old.worker (Complete d) Done ∷ [])

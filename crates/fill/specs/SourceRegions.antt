@@ -3,7 +3,6 @@ use Rattle.std.specs.Prelude.{◌≡◌, ℕ, ◌<◌, ◌≤◌, true, false}
 use Rattle.object_heap.specs.HeapImage.{HeapImage, region_count, start_of}
 use Rattle.summary.specs.NewAddresses.{prefix_end}
 use Rattle.summary.specs.WordMoves.{reads}
-use Rattle.region_cells.specs.Views.{Reading}
 
 -- a region after the prefix
 pub record IsAfterPrefix (image : HeapImage) (r : ℕ) : Type 0 where
@@ -17,8 +16,3 @@ pub record IsNextOtherSource (image : HeapImage) (d from s : ℕ) : Type 0 where
   pub inside : s < region_count image
   pub read : reads image d s ≡ true
   pub between : (t : ℕ) → from ≤ t → t < s → reads image d t ≡ false
-
--- region s of this image is read
-pub record IsReadOf (heap : HeapImage) (s : ℕ) (reading : Reading) : Type 0 where
-  pub image : reading.image ≡ heap
-  pub region : reading.opening.source ≡ s

@@ -1,4 +1,4 @@
-//! Tests of the public calls of `raw_region`, `thread_row`, `read_shares`, `heap_image` and `mark_bitmap`.
+//! Tests of the public calls of `raw_region`, `thread_row`, `read_shares`, `box_row`, `heap_image` and `mark_bitmap`.
 //!
 //! They are in a crate of their own so that checking them doesn't prove those crates again.
 #![tactic(auto)]
@@ -7,6 +7,8 @@
 mod answers;
 #[cfg(test)]
 mod bits;
+#[cfg(test)]
+mod boxes;
 #[cfg(test)]
 mod checks;
 #[cfg(test)]

@@ -10,10 +10,10 @@ ghost use Rattle.heap_text.specs.TextLines.{IsAbout, IsLineOf, IsWithin};
 use crate::error::{AssembleError, TextError};
 use crate::expected::Expected;
 use crate::image_bytes::ImageBytes;
-use crate::lines::{line_of_address, line_of_place};
+use crate::lines::line_of_address;
 use crate::parsed_heap::{ParsedHeap, numbers_after_words};
 use crate::reading::{parse_from, parse_text};
-use crate::writing::write_text_with_capacity;
+use crate::spelling::{check_spelling, common_prefix};
 use heap_image::{Alone, Fault, Image, Intake, read_image, text_is_read_back, text_tells_its_size};
 use std::alloc::Global;
 
@@ -73,12 +73,8 @@ fn build_image(alloc: Global, heap: ParsedHeap, text: &[u8]) -> Result<Image, Te
     let image = decode_heap(alloc, bytes, text)?;
     text_tells_its_size();
     check_live_objects(text, live.as_slice(), image.live())?;
-    let written = write_text_with_capacity(alloc, &image, text.len())?;
-    if text == written.as_slice() {
-        return Ok(image);
-    }
-    let line = line_of_place(text, common_prefix(text, written.as_slice()));
-    Err(TextError::Line(line, Expected::Spelling))
+    check_spelling(alloc, text, &image)?;
+    Ok(image)
 }
 
 /// Decodes an image, and reports a fault at its line of the text.
@@ -135,17 +131,4 @@ fn check_live_objects(text: &[u8], listed: &[u64], live: &[u64]) -> Result<(), T
     };
     let line = line_of_address(text, address);
     Err(TextError::Line(line, expected))
-}
-
-/// The length of the longest common prefix.
-fn common_prefix<T: PartialEq + Copy>(one: &[T], other: &[T]) -> usize
-    ensures { result ≤ length one.now }
-{
-    for (place, left) in one.iter().enumerate() {
-        match other.get(place) {
-            Some(right) if *left == *right => {}
-            _ => return place,
-        }
-    }
-    one.len()
 }

@@ -1,5 +1,5 @@
 //! Gives the bytes of the image of a parsed heap.
-ghost use Rattle.std.specs.Prelude.{◌≡◌, ◌<◌, ◌≤◌, ◌++◌, ◌∷◌, [], true, false, None, IfOk, IfSome, length};
+ghost use Rattle.std.specs.Prelude.{◌≡◌, ◌<◌, ◌≤◌, ◌++◌, ◌∷◌, [], ℕ, List, take, true, false, None, IfOk, IfSome, length};
 ghost use Rattle.image_streams.specs.Numbers.{numbers};
 ghost use Rattle.heap_text.specs.ImageBytes.{bytes_left, numbers_left};
 ghost use Rattle.heap_text.specs.Words.{words_of};
@@ -94,6 +94,28 @@ impl<'a> ImageBytes<'a> {
         Some(*number)
     }
 
+    /// Puts the bytes of whole numbers at `from` and after it, as far as they have room, unless other bytes come first. Returns
+    /// where they end.
+    fn give_numbers(&mut self, buffer: &mut [u8], from: usize) -> usize
+        requires { from ≤ length buffer.old }
+        ensures within { result ≤ length buffer.new }
+        ensures bytes { (whole : List ℕ) → whole ≡ take from buffer.old ++ bytes_left self.old
+            → whole ≡ take result buffer.new ++ bytes_left self.new }
+    {
+        let mut count = from;
+        if self.byte < FRONT_BYTES {
+            return count;
+        }
+        while buffer.len() - count >= 8 {
+            let Some(number) = self.next_number() else {
+                return count;
+            };
+            buffer[count..count + 8].copy_from_slice(&number.to_le_bytes());
+            count += 8;
+        }
+        count
+    }
+
     /// Goes on to the next chunk that has a word left, if there is one.
     fn next_chunk(&mut self)
         ensures same { numbers_left self.new ≡ numbers_left self.old }
@@ -121,7 +143,8 @@ impl Intake for ImageBytes<'_> {
     ghost has_failed = { λ _. false };
 
     fn take(&mut self, buffer: &mut [u8]) -> Result<usize, Failed> {
-        for count in 0..buffer.len() {
+        let given = self.give_numbers(buffer, 0);
+        for count in given..buffer.len() {
             let Some(byte) = self.next_byte() else {
                 return Ok(count);
             };

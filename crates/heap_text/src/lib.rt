@@ -21,8 +21,10 @@ mod line_parser;
 mod lines;
 mod parsed_heap;
 mod reading;
+mod spelling;
 mod text_parser;
 mod word_list;
+mod word_row;
 mod writing;
 
 pub use assembling::{assemble, assemble_from};

@@ -12,6 +12,7 @@ use crate::expected::Expected;
 use crate::line_parser::LineParser;
 use crate::line_parser::line_error::LineError;
 use crate::parsed_heap::ParsedHeap;
+use memchr::memchr;
 use std::alloc::Global;
 
 /// A line that is longer than this is rejected before its end is seen, if its last bytes are none of a text.
@@ -49,11 +50,12 @@ impl TextParser {
         ensures accepts { (image : HeapImage) (more : List ℕ) → IsValid image → IsWaiting image self.old text.now seen more
             → AcceptsText result (λ _. IsWaiting image self.new text.now (length text.now) more) }
     {
-        for place in seen..text.len() {
-            if text[place] == b'\n' {
-                self.parse_line(&text[self.begin..place])?;
-                self.begin = place + 1;
-            }
+        let mut place = seen;
+        while let Some(ahead) = memchr(b'\n', &text[place..]) {
+            let end = place + ahead;
+            self.parse_line(&text[self.begin..end])?;
+            place = end + 1;
+            self.begin = place;
         }
         Ok(())
     }

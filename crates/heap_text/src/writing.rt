@@ -1,8 +1,9 @@
 //! Writes an image as a text.
-ghost use Rattle.std.specs.Prelude.{◌≡◌, ◌++◌, ◌+◌, ◌-◌, ◌≤◌, ◌<◌, IfOk, OnOk, List, ℕ, IsTrue, codes, string_bytes};
+ghost use Rattle.std.specs.Prelude.{◌≡◌, ◌++◌, ◌+◌, ◌-◌, ◌≤◌, ◌<◌, IfOk, OnOk, List, ℕ, IsTrue, codes, decimal};
 ghost use Rattle.object_heap.specs.HeapImage.{HasSoundHeader, end_of, heap_words};
 ghost use Rattle.heap_text.specs.Text.{are_equal, dead_text, dead_words_text, front_text, number_line, lines_from, number_text, numbers_text, object_text, reference_text, references_text, roots_line, roots_text, text_of};
 
+use crate::word_row::{ROW, write_number, write_number_row, write_reference, write_reference_row};
 use heap_image::{Image, image_is_valid};
 use std::alloc::{AllocError, Global};
 
@@ -10,45 +11,37 @@ use std::alloc::{AllocError, Global};
 pub fn write_text(alloc: Global, image: &Image) -> Result<Vec<u8>, AllocError>
     ensures { IfOk result (λ text. text.items ≡ text_of image.now) }
 {
-    write_text_with_capacity(alloc, image, 0)
-}
-
-/// As [`write_text`], with room for `room` bytes at first.
-pub(crate) fn write_text_with_capacity(
-    alloc: Global,
-    image: &Image,
-    room: usize,
-) -> Result<Vec<u8>, AllocError>
-    ensures { IfOk result (λ text. text.items ≡ text_of image.now) }
-{
-    let mut text = String::with_capacity(alloc, room)?;
+    let mut text = Vec::new(alloc);
     write_front(&mut text, image)?;
     write_roots_line(&mut text, image)?;
     write_lines(&mut text, image)?;
-    Ok(text.into_bytes())
+    Ok(text)
 }
 
 /// Appends the lines before the words, except the line of the roots.
-fn write_front(text: &mut String, image: &Image) -> Result<(), AllocError>
-    ensures { OnOk result (string_bytes text.new ≡ string_bytes text.old ++ front_text image.now) }
+pub(crate) fn write_front(text: &mut Vec<u8>, image: &Image) -> Result<(), AllocError>
+    ensures { OnOk result (text.new.items ≡ text.old.items ++ front_text image.now) }
 {
-    write_line(text, "heap version", u64::from(image.version().number()))?;
-    write_line(text, "region-log", u64::from(image.region_log()))?;
-    write_line(text, "words", image.len())?;
-    write_line(text, "allowance", image.allowance())?;
+    write_line(text, b"heap version", u64::from(image.version().number()))?;
+    write_line(text, b"region-log", u64::from(image.region_log()))?;
+    write_line(text, b"words", image.len())?;
+    write_line(text, b"allowance", image.allowance())?;
     Ok(())
 }
 
 /// Appends a line of a name and a number.
-fn write_line(text: &mut String, name: &str, number: u64) -> Result<(), AllocError>
-    ensures { OnOk result (string_bytes text.new ≡ string_bytes text.old ++ number_line name.now number) }
+fn write_line(text: &mut Vec<u8>, name: &[u8], number: u64) -> Result<(), AllocError>
+    ensures { OnOk result (text.new.items ≡ text.old.items ++ number_line name.now number) }
 {
-    writeln!(text, "{name} {number}")
+    text.extend_from_slice(name)?;
+    text.extend_from_slice(b" ")?;
+    write_number(text, number)?;
+    text.extend_from_slice(b"\n")
 }
 
 /// Appends the line of the roots, where the version has them.
-fn write_roots_line(text: &mut String, image: &Image) -> Result<(), AllocError>
-    ensures { OnOk result (string_bytes text.new ≡ string_bytes text.old ++ roots_line image.now) }
+pub(crate) fn write_roots_line(text: &mut Vec<u8>, image: &Image) -> Result<(), AllocError>
+    ensures { OnOk result (text.new.items ≡ text.old.items ++ roots_line image.now) }
 {
     if image.version().has_roots() {
         write_roots(text, image.roots())
@@ -58,19 +51,19 @@ fn write_roots_line(text: &mut String, image: &Image) -> Result<(), AllocError>
 }
 
 /// Appends a line of these roots.
-fn write_roots(text: &mut String, roots: &[u64]) -> Result<(), AllocError>
-    ensures { OnOk result (string_bytes text.new ≡ string_bytes text.old ++ roots_text roots.now) }
+fn write_roots(text: &mut Vec<u8>, roots: &[u64]) -> Result<(), AllocError>
+    ensures { OnOk result (text.new.items ≡ text.old.items ++ roots_text roots.now) }
 {
-    text.push_str("roots")?;
+    text.extend_from_slice(b"roots")?;
     for root in roots {
         write_reference(text, *root)?;
     }
-    text.push_str("\n")
+    text.extend_from_slice(b"\n")
 }
 
 /// Appends a line for each object and each dead run.
-fn write_lines(text: &mut String, image: &Image) -> Result<(), AllocError>
-    ensures { OnOk result (string_bytes text.new ≡ string_bytes text.old ++ lines_from image.now 0 image.now.live) }
+fn write_lines(text: &mut Vec<u8>, image: &Image) -> Result<(), AllocError>
+    ensures { OnOk result (text.new.items ≡ text.old.items ++ lines_from image.now 0 image.now.live) }
 {
     let mut from = 0;
     for place in image.live() {
@@ -81,37 +74,59 @@ fn write_lines(text: &mut String, image: &Image) -> Result<(), AllocError>
 }
 
 /// Appends the line of an object, and returns the end of the object.
-fn write_object(text: &mut String, image: &Image, place: u64) -> Result<u64, AllocError>
+pub(crate) fn write_object(text: &mut Vec<u8>, image: &Image, place: u64) -> Result<u64, AllocError>
     requires { HasSoundHeader image.now place }
-    ensures text { OnOk result (string_bytes text.new ≡ string_bytes text.old ++ object_text image.now place) }
+    ensures text { OnOk result (text.new.items ≡ text.old.items ++ object_text image.now place) }
     ensures end { IfOk result (λ end. end ≡ end_of image.now place) }
 {
     image_is_valid(image);
     let behind = place + 1 + image.references_at(place);
     let size = image.size_at(place);
     let end = place + size;
-    write!(text, "@{place} object {size}")?;
+    write_beginning(text, place, b" object ", size)?;
     write_references(text, image, place + 1, behind)?;
-    write_numbers(text, image, "data", behind, end)?;
-    text.push_str("\n")?;
+    write_numbers(text, image, b" data", behind, end)?;
+    text.extend_from_slice(b"\n")?;
     Ok(end)
 }
 
 /// Appends the line of the dead words from `from` up to `to`, if there are any.
-fn write_dead(text: &mut String, image: &Image, from: u64, to: u64) -> Result<(), AllocError>
+pub(crate) fn write_dead(
+    text: &mut Vec<u8>,
+    image: &Image,
+    from: u64,
+    to: u64,
+) -> Result<(), AllocError>
     requires { to ≤ heap_words image.now }
-    ensures { OnOk result (string_bytes text.new ≡ string_bytes text.old ++ dead_text image.now from to) }
+    ensures { OnOk result (text.new.items ≡ text.old.items ++ dead_text image.now from to) }
 {
     if to <= from {
         return Ok(());
     }
-    write!(text, "@{from} dead {}", to - from)?;
+    write_beginning(text, from, b" dead ", to - from)?;
     if are_equal(image, from, to) {
-        write!(text, " of {}", image.word(from))?;
+        text.extend_from_slice(b" of ")?;
+        write_number(text, image.word(from))?;
     } else {
-        write_numbers(text, image, "words", from, to)?;
+        write_numbers(text, image, b" words", from, to)?;
     }
-    text.push_str("\n")
+    text.extend_from_slice(b"\n")
+}
+
+/// Appends an address, a kind and a number of words, with which a line begins.
+fn write_beginning(
+    text: &mut Vec<u8>,
+    place: u64,
+    kind: &[u8],
+    count: u64,
+) -> Result<(), AllocError>
+    ensures { OnOk result (text.new.items ≡ text.old.items
+        ++ (codes "@" ++ (decimal place ++ (kind.now ++ decimal count)))) }
+{
+    text.extend_from_slice(b"@")?;
+    write_number(text, place)?;
+    text.extend_from_slice(kind)?;
+    write_number(text, count)
 }
 
 /// Whether the words from `from` up to `to` are all equal.
@@ -130,48 +145,43 @@ fn are_equal(image: &Image, from: u64, to: u64) -> bool
 }
 
 /// Appends the words from `from` up to `to` as references, if there are any.
-fn write_references(text: &mut String, image: &Image, from: u64, to: u64) -> Result<(), AllocError>
+fn write_references(text: &mut Vec<u8>, image: &Image, from: u64, to: u64) -> Result<(), AllocError>
     requires { to ≤ heap_words image.now }
-    ensures { OnOk result (string_bytes text.new ≡ string_bytes text.old ++ references_text image.now from to) }
+    ensures { OnOk result (text.new.items ≡ text.old.items ++ references_text image.now from to) }
 {
     if to <= from {
         return Ok(());
     }
-    text.push_str(" refs")?;
-    for place in from..to {
-        write_reference(text, image.word(place))?;
+    text.extend_from_slice(b" refs")?;
+    let mut place = from;
+    while place < to {
+        let end = place + ROW.min(to - place);
+        write_reference_row(text, image, place, end)?;
+        place = end;
     }
     Ok(())
 }
 
 /// Appends a name and the words from `from` up to `to` as numbers, if there are any.
 fn write_numbers(
-    text: &mut String,
+    text: &mut Vec<u8>,
     image: &Image,
-    name: &str,
+    name: &[u8],
     from: u64,
     to: u64,
 ) -> Result<(), AllocError>
     requires { to ≤ heap_words image.now }
-    ensures { OnOk result (string_bytes text.new ≡ string_bytes text.old ++ numbers_text image.now (codes " " ++ name.now) from to) }
+    ensures { OnOk result (text.new.items ≡ text.old.items ++ numbers_text image.now name.now from to) }
 {
     if to <= from {
         return Ok(());
     }
-    write!(text, " {name}")?;
-    for place in from..to {
-        write!(text, " {}", image.word(place))?;
+    text.extend_from_slice(name)?;
+    let mut place = from;
+    while place < to {
+        let end = place + ROW.min(to - place);
+        write_number_row(text, image, place, end)?;
+        place = end;
     }
     Ok(())
-}
-
-/// Appends a reference or a root.
-fn write_reference(text: &mut String, reference: u64) -> Result<(), AllocError>
-    ensures { OnOk result (string_bytes text.new ≡ string_bytes text.old ++ reference_text reference) }
-{
-    if reference == 0 {
-        text.push_str(" null")
-    } else {
-        write!(text, " @{}", reference - 1)
-    }
 }

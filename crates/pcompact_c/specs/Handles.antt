@@ -1,5 +1,5 @@
 -- What a host's handle owns, and what contracts see of it.
-use Rattle.std.specs.Prelude.{◌≡◌, ◌⊎◌, ℕ, List, ◌++◌, ◌∷◌, [], All, Bool, Option, Some, None, map, option_map}
+use Rattle.std.specs.Prelude.{◌≡◌, ◌≤◌, ◌⊎◌, ℕ, List, ◌++◌, ◌∷◌, [], All, Bool, false, Option, Some, None, length, map, option_map}
 use Rattle.std.specs.Ptr.{Ptr}
 use Rattle.std.specs.Coded.{coded_option}
 use Rattle.std_heap.specs.contracts.GlobalAllocator.TheImpl.{ghosts}
@@ -8,7 +8,6 @@ use Rattle.image_streams.specs.declared.fault.Fault.{Fault}
 use Rattle.image_streams.specs.declared.fault.Fault.TheVariants.{Length, Memory, Workers}
 use Rattle.object_heap.specs.HeapImage.{HeapImage}
 use Rattle.heap_image.specs.ImageText.{first_fault}
-use Rattle.fill.specs.FillFaults.{IsOverwritten}
 use Rattle.collector.specs.declared.session.share.Share.{Share}
 use Rattle.collector.specs.Sessions.{image_of}
 use Rattle.caller_heap.specs.declared.part.Origin.{Origin}
@@ -54,6 +53,18 @@ AreFrom origin handles = All (λ h. origin_in h ≡ Some origin) handles
 abbrev pub HaveSameParts : List Handle → List Handle → Type 0
 HaveSameParts before after = map (λ (h : Handle). h.2) after ≡ map (λ (h : Handle). h.2) before
 
+-- none has a part
+abbrev pub HaveNoParts : List Handle → Type 0
+HaveNoParts handles = All (λ h. h.2 ≡ None) handles
+
+-- each had a part of a collection whose words come from there, and has none
+abbrev pub AreSpent : Origin → List Handle → List Handle → Type 0
+AreSpent origin before after = AreFrom origin before × HaveNoParts after
+
+-- they are 1 to 64, and none is held
+abbrev pub AreReady : List Handle → Type 0
+AreReady handles = (1 ≤ length handles) × (length handles ≤ 64) × All (λ h. h.0 ≡ false) handles
+
 -- the image of the last of these handles
 abbrev pub IsLastIn : HeapImage → List Handle → Type 0
 IsLastIn image handles = (others : List Handle) × (last : Handle) × (handles ≡ others ++ last ∷ []) × (image_in last ≡ Some image)
@@ -62,7 +73,6 @@ IsLastIn image handles = (others : List Handle) × (last : Handle) × (handles �
 abbrev pub IsWhyNotBegun : List ℕ → Fault → Type 0
 IsWhyNotBegun bytes fault = (fault ≡ Workers) ⊎ ((fault ≡ Memory) ⊎ (first_fault bytes ≡ Some fault))
 
--- the handles aren't those of one session that is ended so, the lists have other counts, memory ran out, or a cell or a queue
--- contradicts the order of work
+-- the handles aren't those of one session that is ended so, the lists have other counts, or memory ran out
 abbrev pub IsWhyNotEnded : Fault → Type 0
-IsWhyNotEnded fault = (fault ≡ Workers) ⊎ ((fault ≡ Length) ⊎ ((fault ≡ Memory) ⊎ IsOverwritten fault))
+IsWhyNotEnded fault = (fault ≡ Workers) ⊎ ((fault ≡ Length) ⊎ (fault ≡ Memory))

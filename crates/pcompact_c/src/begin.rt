@@ -4,21 +4,19 @@ ghost use Rattle.image_streams.specs.declared.fault.Fault.TheVariants.{Memory, W
 ghost use Rattle.object_heap.specs.declared.version.Version.TheVariants.{One, Three};
 ghost use Rattle.object_heap.specs.HeapImage.{HeapImage, IsValid, region_count};
 ghost use Rattle.heap_image.specs.ImageText.{text};
-ghost use Rattle.fill.specs.FillFaults.{IsOverwritten};
 ghost use Rattle.caller_heap.specs.HeapWords.{heap_bytes};
-ghost use Rattle.caller_heap.specs.Lent.{AreBack, HoldImage, IsGone, IsWhyLentKept, heap_in};
+ghost use Rattle.caller_heap.specs.Lent.{AreBack, HoldImage, IsGone, IsNotLent, IsWhyLentKept, heap_in};
 ghost use Rattle.caller_heap.specs.Parts.{IsPartOf};
 ghost use Rattle.caller_heap.specs.declared.part.Origin.{Origin};
 ghost use Rattle.caller_heap.specs.declared.part.Origin.TheVariants.{Copied, Lent};
 ghost use Rattle.pcompact_c.specs.Faults.{IsFaultFor, IsOf};
-ghost use Rattle.pcompact_c.specs.Handles.{IsHandleOf, IsWhyNotBegun};
+ghost use Rattle.pcompact_c.specs.Handles.{AreReady, IsHandleOf, IsWhyNotBegun};
 
 use crate::fault::PcompactFault;
 use crate::handle::PcompactHandle;
 use caller_heap::{
     HeapSettings, Origin, Part, begin_lent, boxed_parts, image_of_heap, image_of_lent,
 };
-use collector::Refusal;
 use heap_image::{Fault, Image, Version};
 use raw_region::HostWords;
 use std::alloc::Global;
@@ -51,8 +49,7 @@ pub extern "C" fn pcompact_begin(
     ensures begun { result.number ≡ 0 → (image : HeapImage) × IsValid image
         × (heap_bytes One settings words.now live.now ≡ text image)
         × All (IsHandleOf image Copied) handles.new }
-    ensures count { result.number ≡ 0 → (1 ≤ length handles.old) × (length handles.old ≤ 64) }
-    ensures free { result.number ≡ 0 → All (λ h. h.0 ≡ false) handles.old }
+    ensures ready { result.number ≡ 0 → AreReady handles.old }
     ensures kept { 0 < result.number → handles.new ≡ handles.old }
     ensures fault { 0 < result.number → IsFaultFor (IsWhyNotBegun (heap_bytes One settings words.now live.now)) result }
 {
@@ -77,8 +74,7 @@ pub extern "C" fn pcompact_begin_rooted(
     ensures begun { result.number ≡ 0 → (image : HeapImage) × IsValid image
         × (heap_bytes Three settings words.now roots.now ≡ text image)
         × All (IsHandleOf image Copied) handles.new }
-    ensures count { result.number ≡ 0 → (1 ≤ length handles.old) × (length handles.old ≤ 64) }
-    ensures free { result.number ≡ 0 → All (λ h. h.0 ≡ false) handles.old }
+    ensures ready { result.number ≡ 0 → AreReady handles.old }
     ensures kept { 0 < result.number → handles.new ≡ handles.old }
     ensures fault { 0 < result.number → IsFaultFor (IsWhyNotBegun (heap_bytes Three settings words.now roots.now)) result }
 {
@@ -92,11 +88,10 @@ pub extern "C" fn pcompact_begin_rooted(
 }
 
 /// As [`pcompact_begin`], but the workers compact the words where they lie, a region each from address 0 up. None of them is
-/// held then, and the end must name the same place. After a fault handles and words are as they were, but words for fault
-/// 15, after which nothing is promised of them.
+/// held then, and the end must name the same place. After a fault handles and words are as they were.
 ///
-/// The fault is also 4 if some words aren't held or are more or fewer than a region has, or 15 if a cell contradicts the
-/// order of work.
+/// The fault is also 4 if some words aren't held or are more or fewer than a region has. No contract excludes fault 12 for
+/// handles that are ready, as none follows whose memory a region has: after it nothing is promised of the words.
 #[unsafe(no_mangle)]
 pub extern "C" fn pcompact_begin_lent_at(
     alloc: Global,
@@ -108,11 +103,10 @@ pub extern "C" fn pcompact_begin_lent_at(
     ensures begun { result.number ≡ 0 → (image : HeapImage) × IsValid image
         × (heap_bytes One settings.heap (heap_in words.old) live.now ≡ text image)
         × All (IsHandleOf image (Lent settings.place)) handles.new }
-    ensures count { result.number ≡ 0 → (1 ≤ length handles.old) × (length handles.old ≤ 64) }
-    ensures free { result.number ≡ 0 → All (λ h. h.0 ≡ false) handles.old }
+    ensures ready { result.number ≡ 0 → AreReady handles.old }
     ensures gone { result.number ≡ 0 → All IsGone words.new }
     ensures kept { 0 < result.number → handles.new ≡ handles.old }
-    ensures back { 0 < result.number → AreBack words.old words.new ⊎ (result.number ≡ 15) }
+    ensures back { 0 < result.number → AreBack words.old words.new ⊎ ((result.number ≡ 12) × AreReady handles.old) }
     ensures fault { 0 < result.number → IsFaultFor (λ fault. (fault ≡ Workers)
         ⊎ IsWhyLentKept settings.heap.region_log words.old (heap_bytes One settings.heap (heap_in words.old) live.now) fault) result }
 {
@@ -137,11 +131,10 @@ pub extern "C" fn pcompact_begin_lent_rooted_at(
     ensures begun { result.number ≡ 0 → (image : HeapImage) × IsValid image
         × (heap_bytes Three settings.heap (heap_in words.old) roots.now ≡ text image)
         × All (IsHandleOf image (Lent settings.place)) handles.new }
-    ensures count { result.number ≡ 0 → (1 ≤ length handles.old) × (length handles.old ≤ 64) }
-    ensures free { result.number ≡ 0 → All (λ h. h.0 ≡ false) handles.old }
+    ensures ready { result.number ≡ 0 → AreReady handles.old }
     ensures gone { result.number ≡ 0 → All IsGone words.new }
     ensures kept { 0 < result.number → handles.new ≡ handles.old }
-    ensures back { 0 < result.number → AreBack words.old words.new ⊎ (result.number ≡ 15) }
+    ensures back { 0 < result.number → AreBack words.old words.new ⊎ ((result.number ≡ 12) × AreReady handles.old) }
     ensures fault { 0 < result.number → IsFaultFor (λ fault. (fault ≡ Workers)
         ⊎ IsWhyLentKept settings.heap.region_log words.old (heap_bytes Three settings.heap (heap_in words.old) roots.now) fault) result }
 {
@@ -156,8 +149,7 @@ pub extern "C" fn pcompact_begin_lent_rooted_at(
 
 /// Whether a collection can begin with these handles: they are 1 to 64, and none is held.
 fn are_ready(handles: &mut [PcompactHandle]) -> bool
-    ensures count { IsTrue result → (1 ≤ length handles.old) × (length handles.old ≤ 64) }
-    ensures free { IsTrue result → All (λ h. h.0 ≡ false) handles.old }
+    ensures ready { IsTrue result → AreReady handles.old }
     ensures same { handles.new ≡ handles.old }
 {
     1 <= handles.len() && handles.len() <= MOST_WORKERS && are_free(handles)
@@ -179,8 +171,7 @@ fn are_free(handles: &mut [PcompactHandle]) -> bool
 /// Gives each handle a worker's part in the compaction of an image, whose words are a copy. Returns fault 11 if memory runs
 /// out, and then the handles are as they were.
 fn deal(alloc: Global, image: Image, handles: &mut [PcompactHandle]) -> PcompactFault
-    requires few { length handles.old ≤ 64 }
-    requires free { All (λ h. h.0 ≡ false) handles.old }
+    requires ready { AreReady handles.old }
     ensures parts { result.number ≡ 0 → All (IsHandleOf image Copied) handles.new }
     ensures kept { 0 < result.number → handles.new ≡ handles.old }
     ensures fault { 0 < result.number → IsOf Workers result ⊎ IsOf Memory result }
@@ -190,22 +181,12 @@ fn deal(alloc: Global, image: Image, handles: &mut [PcompactHandle]) -> Pcompact
             hand_out(parts, handles);
             PcompactFault::NONE
         }
-        Err(refusal) => PcompactFault::of(fault_of(refusal)),
-    }
-}
-
-/// The fault of a begin over a copy of the words, which may be lost: 12 if there aren't 1 to 64 workers, otherwise 11.
-fn fault_of(refusal: Refusal) -> Fault
-    ensures { (result ≡ Memory) ⊎ (result ≡ Workers) }
-{
-    match refusal.fault() {
-        Fault::Workers => Fault::Workers,
-        _ => Fault::Memory,
+        Err(refusal) => PcompactFault::of(refusal.fault()),
     }
 }
 
 /// Gives each handle a worker's part in the compaction of an image whose words were lent from these, in a list at this
-/// place. After fault 11 all is as it was, and after fault 15 the handles are.
+/// place. After fault 11 all is as it was, and after fault 12 the handles are.
 fn deal_lent(
     alloc: Global,
     image: Image,
@@ -213,16 +194,14 @@ fn deal_lent(
     words: &mut [HostWords],
     handles: &mut [PcompactHandle],
 ) -> PcompactFault
-    requires few { length handles.old ≤ 64 }
-    requires free { All (λ h. h.0 ≡ false) handles.old }
+    requires ready { AreReady handles.old }
     requires gone { All IsGone words.old }
     requires count { length words.old ≡ region_count image }
     ensures parts { result.number ≡ 0 → All (IsHandleOf image (Lent place)) handles.new }
     ensures gone { result.number ≡ 0 → All IsGone words.new }
     ensures kept { 0 < result.number → handles.new ≡ handles.old }
-    ensures back { 0 < result.number → HoldImage image words.new ⊎ (result.number ≡ 15) }
-    ensures fault { 0 < result.number → IsFaultFor
-        (λ fault. (fault ≡ Workers) ⊎ ((fault ≡ Memory) ⊎ IsOverwritten fault)) result }
+    ensures back { 0 < result.number → HoldImage image words.new ⊎ (result.number ≡ 12) }
+    ensures fault { 0 < result.number → IsFaultFor (λ fault. (fault ≡ Memory) ⊎ IsNotLent fault) result }
 {
     match begin_lent(alloc, image, words, handles.len() as u32, place) {
         Ok(parts) => {

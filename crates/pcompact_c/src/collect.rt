@@ -19,8 +19,8 @@ use std::alloc::Global;
 /// Compacts the heap with these words and live addresses in place. Returns the number of the fault in `answer`. After a
 /// fault the words and live addresses are as they were.
 ///
-/// The fault is the first fault of the bytes of its image, 3, 4 or 6 to 9, or 11 if memory runs out, or 15 if a cell
-/// contradicts the order of work. Takes the memory of a copy of the words, and what a collection by one worker takes.
+/// The fault is the first fault of the bytes of its image, 3, 4 or 6 to 9, or 11 if memory runs out. Takes the memory of a
+/// copy of the words, and what a collection by one worker takes.
 #[unsafe(no_mangle)]
 pub extern "C" fn pcompact_collect(
     alloc: Global,
@@ -64,8 +64,9 @@ pub extern "C" fn pcompact_collect_rooted(
 }
 
 /// As [`pcompact_collect`], but each region's words are lent, and compacted where they lie. The fault is 4 also if some
-/// words aren't held or are more or fewer than a region has. After fault 15 nothing is promised of words and live
-/// addresses. Takes the memory that a collection by one worker takes.
+/// words aren't held or are more or fewer than a region has. No contract excludes fault 12, as none follows whose memory a
+/// region has: after it nothing is promised of words and live addresses. Takes the memory that a collection by one worker
+/// takes.
 #[unsafe(no_mangle)]
 pub extern "C" fn pcompact_collect_lent(
     alloc: Global,
@@ -79,7 +80,7 @@ pub extern "C" fn pcompact_collect_lent(
         × (heap_bytes One settings (heap_in words.old) live.old ≡ text image)
         × HoldImage (compact image) words.new × (live.new ≡ (compact image).live)
         × IsSummaryOf image answer.new }
-    ensures kept { 0 < result → (AreBack words.old words.new × (live.new ≡ live.old)) ⊎ (result ≡ 15) }
+    ensures kept { 0 < result → (AreBack words.old words.new × (live.new ≡ live.old)) ⊎ (result ≡ 12) }
     ensures fault { 0 < result → IsFaultFor
         (IsWhyLentKept settings.region_log words.old (heap_bytes One settings (heap_in words.old) live.old)) answer.new.fault }
 {
@@ -101,7 +102,7 @@ pub extern "C" fn pcompact_collect_lent_rooted(
         × (heap_bytes Three settings (heap_in words.old) roots.old ≡ text image)
         × HoldImage (compact image) words.new × ((compact image).roots ≡ Some roots.new)
         × IsSummaryOf image answer.new }
-    ensures kept { 0 < result → (AreBack words.old words.new × (roots.new ≡ roots.old)) ⊎ (result ≡ 15) }
+    ensures kept { 0 < result → (AreBack words.old words.new × (roots.new ≡ roots.old)) ⊎ (result ≡ 12) }
     ensures fault { 0 < result → IsFaultFor
         (IsWhyLentKept settings.region_log words.old (heap_bytes Three settings (heap_in words.old) roots.old)) answer.new.fault }
 {

@@ -4,7 +4,6 @@ ghost use Rattle.image_streams.specs.declared.fault.Fault.TheVariants.{Length, M
 ghost use Rattle.object_heap.specs.HeapImage.{HeapImage};
 ghost use Rattle.heap_image.specs.ImageText.{with_tail};
 ghost use Rattle.summary.specs.Compaction.{compact};
-ghost use Rattle.fill.specs.FillFaults.{IsOverwritten};
 ghost use Rattle.collector.specs.Collections.{figures_of};
 ghost use Rattle.collector.specs.Sessions.{image_of};
 ghost use Rattle.collector.specs.declared.session.share.Share.{Share};
@@ -12,7 +11,7 @@ ghost use Rattle.caller_heap.specs.Lent.{HoldImage, IsGone};
 ghost use Rattle.caller_heap.specs.declared.part.Origin.TheVariants.{Copied, Lent};
 ghost use Rattle.pcompact_c.specs.Answers.{IsSummaryOf};
 ghost use Rattle.pcompact_c.specs.Faults.{IsFaultFor};
-ghost use Rattle.pcompact_c.specs.Handles.{AreFrom, HaveSameParts, IsLastIn, IsWhyNotEnded, share_in};
+ghost use Rattle.pcompact_c.specs.Handles.{AreFrom, AreSpent, HaveNoParts, HaveSameParts, IsLastIn, IsWhyNotEnded, share_in};
 
 use crate::answer::PcompactAnswer;
 use crate::handle::PcompactHandle;
@@ -27,8 +26,8 @@ use std::alloc::Global;
 /// `answer`. After a fault the words and the list are as they were.
 ///
 /// The fault is 12 if these aren't the handles of such a begin: then they are as they were, and their collections go on.
-/// Otherwise none is held afterwards. It is 4 if the words or the list are not as many as there, 11 if memory runs out, or 15
-/// if a cell contradicts the order of work.
+/// Otherwise none is held afterwards. It is 4 if the words or the list are not as many as there, or 11 if memory runs out. No
+/// contract excludes that none is held after fault 12, as none follows which handles are all of one begin.
 #[unsafe(no_mangle)]
 pub extern "C" fn pcompact_end(
     alloc: Global,
@@ -39,8 +38,8 @@ pub extern "C" fn pcompact_end(
 ) -> u32
     ensures number { result ≡ answer.new.fault.number }
     ensures origin { AreFrom Copied handles.old ⊎ (result ≡ 12) }
-    ensures refused { result ≡ 12 → HaveSameParts handles.old handles.new }
-    ensures free { All (λ h. h.2 ≡ None) handles.new ⊎ (result ≡ 12) }
+    ensures refused { result ≡ 12 → HaveSameParts handles.old handles.new ⊎ AreSpent Copied handles.old handles.new }
+    ensures free { HaveNoParts handles.new ⊎ (result ≡ 12) }
     ensures collected { result ≡ 0 → (image : HeapImage) × IsLastIn image handles.old
         × (words.new ≡ (compact image).words) × (list.new ≡ (with_tail (compact image)).live)
         × IsSummaryOf image answer.new }
@@ -56,8 +55,8 @@ pub extern "C" fn pcompact_end(
 ///
 /// The fault is 12 if these aren't the handles of one begin with this place, 4 if the words or the list are not as many as
 /// there or some words are held, or 11 if memory runs out: then handles, words and list are as they were, and the
-/// collection goes on. It is 15 if a cell contradicts the order of work or the words were not lent: then the
-/// collection is over, and nothing is promised of words and list. After 0 and 15 no handle is held.
+/// collection goes on. After 0 no handle is held. No contract excludes that none is held after fault 12 and nothing is
+/// promised of words and list, as none follows which handles are all of one begin, and whose memory a region has.
 #[unsafe(no_mangle)]
 pub extern "C" fn pcompact_end_lent_at(
     alloc: Global,
@@ -67,20 +66,21 @@ pub extern "C" fn pcompact_end_lent_at(
     place: u64,
 ) -> PcompactAnswer
     ensures origin { AreFrom (Lent place) handles.old ⊎ (result.fault.number ≡ 12) }
-    ensures free { result.fault.number ≡ 0 → All (λ h. h.2 ≡ None) handles.new }
+    ensures free { result.fault.number ≡ 0 → HaveNoParts handles.new }
     ensures collected { result.fault.number ≡ 0 → (image : HeapImage) × IsLastIn image handles.old
         × HoldImage (compact image) words.new × (list.new ≡ (with_tail (compact image)).live)
         × IsSummaryOf image result }
     ensures kept { 0 < result.fault.number → ((words.new ≡ words.old) × (list.new ≡ list.old)
         × HaveSameParts handles.old handles.new)
-        ⊎ ((result.fault.number ≡ 15) × All (λ h. h.2 ≡ None) handles.new) }
+        ⊎ ((result.fault.number ≡ 12) × AreSpent (Lent place) handles.old handles.new) }
     ensures fault { 0 < result.fault.number → IsFaultFor IsWhyNotEnded result.fault }
 {
     PcompactAnswer::of(end_lent(alloc, handles, words, list, place))
 }
 
 /// Ends the session of these handles, whose words are a copy, and writes the words of the compaction, and its live addresses or
-/// roots. After a fault the words and the list are as they were; after fault 12 the handles too, otherwise none has a share.
+/// roots. After a fault the words and the list are as they were. After fault 12 the handles are too, unless their shares were of
+/// several sessions; otherwise none has a share.
 fn end(
     alloc: Global,
     handles: &mut [PcompactHandle],
@@ -88,8 +88,8 @@ fn end(
     list: &mut [u64],
 ) -> Result<Figures, Fault>
     ensures origin { AreFrom Copied handles.old ⊎ (result ≡ Err Workers) }
-    ensures refused { result ≡ Err Workers → HaveSameParts handles.old handles.new }
-    ensures free { All (λ h. h.2 ≡ None) handles.new ⊎ (result ≡ Err Workers) }
+    ensures refused { result ≡ Err Workers → HaveSameParts handles.old handles.new ⊎ AreSpent Copied handles.old handles.new }
+    ensures free { HaveNoParts handles.new ⊎ (result ≡ Err Workers) }
     ensures collected { IfOk result (λ figures. (image : HeapImage) × IsLastIn image handles.old
         × (words.new ≡ (compact image).words) × (list.new ≡ (with_tail (compact image)).live) × (figures ≡ figures_of image)) }
     ensures kept { OnErr result ((words.new ≡ words.old) × (list.new ≡ list.old)) }
@@ -106,7 +106,7 @@ fn end(
 }
 
 /// Takes the shares out of these handles, each of which has one, in their order, into a list with room for them. If memory
-/// runs out or there is no list, the shares are dropped. The fault is that of the list, or 11, or 15 for a handle without a
+/// runs out or there is no list, the shares are dropped. The fault is that of the list, or 11, or 12 for a handle without a
 /// share.
 fn take_shares(
     alloc: Global,
@@ -114,10 +114,10 @@ fn take_shares(
     handles: &mut [PcompactHandle],
 ) -> Result<Vec<Share>, Fault>
     requires none { IfOk room (λ shares. shares.items ≡ []) }
-    requires fault { IfErr room (λ fault. (fault ≡ Memory) ⊎ IsOverwritten fault) }
-    ensures free { All (λ h. h.2 ≡ None) handles.new }
+    requires fault { IfErr room (λ fault. (fault ≡ Memory) ⊎ (fault ≡ Workers)) }
+    ensures free { HaveNoParts handles.new }
     ensures shares { IfOk result (λ shares. map share_in handles.old ≡ map Some shares.items) }
-    ensures fault { IfErr result (λ fault. (fault ≡ Memory) ⊎ IsOverwritten fault) }
+    ensures fault { IfErr result (λ fault. (fault ≡ Memory) ⊎ (fault ≡ Workers)) }
 {
     let mut taken = room;
     for handle in handles.iter_mut() {
@@ -134,38 +134,35 @@ fn room_for(alloc: Global, count: usize) -> Result<Vec<Share>, Fault>
     Ok(Vec::with_capacity(alloc, count)?)
 }
 
-/// The shares so far, if there was no fault, and that of one more part. No part is fault 15.
+/// The shares so far, if there was no fault, and that of one more part. No part is fault 12.
 fn with_share(
     taken: Result<Vec<Share>, Fault>,
     part: Option<Box<Part, Global>>,
 ) -> Result<Vec<Share>, Fault>
-    requires fault { IfErr taken (λ fault. (fault ≡ Memory) ⊎ IsOverwritten fault) }
+    requires fault { IfErr taken (λ fault. (fault ≡ Memory) ⊎ (fault ≡ Workers)) }
     ensures shares { IfOk result (λ all. MatchResult taken
         (λ so_far. MatchOption part ⊥ (λ more. all.items ≡ so_far.items ++ more.value.share ∷ [])) (λ _. ⊥)) }
-    ensures fault { IfErr result (λ fault. (fault ≡ Memory) ⊎ IsOverwritten fault) }
+    ensures fault { IfErr result (λ fault. (fault ≡ Memory) ⊎ (fault ≡ Workers)) }
 {
     let mut shares = taken?;
     let Some(part) = part else {
-        return Err(Fault::Overwritten(0));
+        return Err(Fault::Workers);
     };
     shares.push(Box::into_inner(part).share)?;
     Ok(shares)
 }
 
-/// Ends the session of these shares, and returns what it made of the last one's image. Fails with fault 15 if they aren't all
-/// of one session, or a cell contradicts the order of work.
+/// Ends the session of these shares, and returns what it made of the last one's image. Fails with fault 12 if they aren't all
+/// of one session.
 fn outcome_of(mut shares: Vec<Share>) -> Result<Outcome, Fault>
     ensures outcome { IfOk result (λ outcome. (others : List Share) × (last : Share) × (shares.items ≡ others ++ last ∷ [])
         × (outcome.image ≡ compact (image_of last)) × (outcome.figures ≡ figures_of (image_of last))) }
-    ensures fault { IfErr result IsOverwritten }
+    ensures fault { IfErr result (λ fault. fault ≡ Workers) }
 {
     let Some(share) = shares.pop() else {
-        return Err(Fault::Overwritten(0));
+        return Err(Fault::Workers);
     };
-    match share.end(shares) {
-        Ok(outcome) => Ok(outcome),
-        Err(fault) => Err(contradiction(fault)),
-    }
+    share.end(shares)
 }
 
 /// Writes the words and the live addresses or roots of an image over lists of as many. Fails with fault 4 if a list has
@@ -194,18 +191,8 @@ fn tail_len(image: &Image) -> usize
     }
 }
 
-/// Fault 15, for a fault that contradicts what was tested before.
-fn contradiction(fault: Fault) -> Fault
-    ensures { IsOverwritten result }
-{
-    match fault {
-        Fault::Overwritten(region) => Fault::Overwritten(region),
-        _ => Fault::Overwritten(0),
-    }
-}
-
 /// Ends the session of these handles, whose words were lent in a list at this place, and puts the words of the compaction
-/// back, and its live addresses or roots. After a fault all is as it was, but for fault 15.
+/// back, and its live addresses or roots. After a fault all is as it was, unless no handle has a share after fault 12.
 fn end_lent(
     alloc: Global,
     handles: &mut [PcompactHandle],
@@ -214,12 +201,12 @@ fn end_lent(
     place: u64,
 ) -> Result<Figures, Fault>
     ensures origin { AreFrom (Lent place) handles.old ⊎ (result ≡ Err Workers) }
-    ensures free { OnOk result (All (λ h. h.2 ≡ None) handles.new) }
+    ensures free { OnOk result (HaveNoParts handles.new) }
     ensures collected { IfOk result (λ figures. (image : HeapImage) × IsLastIn image handles.old
         × HoldImage (compact image) words.new × (list.new ≡ (with_tail (compact image)).live) × (figures ≡ figures_of image)) }
     ensures kept { IfErr result (λ fault. ((words.new ≡ words.old) × (list.new ≡ list.old)
         × HaveSameParts handles.old handles.new)
-        ⊎ (IsOverwritten fault × All (λ h. h.2 ≡ None) handles.new)) }
+        ⊎ ((fault ≡ Workers) × AreSpent (Lent place) handles.old handles.new)) }
     ensures fault { IfErr result IsWhyNotEnded }
 {
     if !are_all_of_one(alloc, Origin::Lent(place), handles) {
@@ -231,7 +218,7 @@ fn end_lent(
     let room = room_for(alloc, handles.len())?;
     match take_shares(alloc, Ok(room), handles) {
         Ok(shares) => end_shares(shares, words, list),
-        Err(fault) => Err(contradiction(fault)),
+        Err(_) => Err(Fault::Workers),
     }
 }
 
@@ -256,7 +243,8 @@ fn are_gone(words: &mut [HostWords]) -> bool
     true
 }
 
-/// Ends the session of these shares into words that it suits. Whatever it contradicts is fault 15.
+/// Ends the session of these shares into words that it suits. Fails with fault 12 if they aren't all of one session over lent
+/// words that suits these.
 fn end_shares(
     mut shares: Vec<Share>,
     words: &mut [HostWords],
@@ -266,18 +254,15 @@ fn end_shares(
     ensures collected { IfOk result (λ figures. (others : List Share) × (last : Share) × (shares.items ≡ others ++ last ∷ [])
         × HoldImage (compact (image_of last)) words.new × (list.new ≡ (with_tail (compact (image_of last))).live)
         × (figures ≡ figures_of (image_of last))) }
-    ensures fault { IfErr result IsOverwritten }
+    ensures fault { IfErr result (λ fault. fault ≡ Workers) }
 {
     let Some(share) = shares.pop() else {
-        return Err(Fault::Overwritten(0));
+        return Err(Fault::Workers);
     };
     if !suits(&share, words.len(), list.len()) {
-        return Err(Fault::Overwritten(0));
+        return Err(Fault::Workers);
     }
-    match end_lent_words(words, list, share, shares) {
-        Ok(figures) => Ok(figures),
-        Err(fault) => Err(contradiction(fault)),
-    }
+    end_lent_words(words, list, share, shares)
 }
 
 /// Whether these are all handles of one collection, and that has its words from there.

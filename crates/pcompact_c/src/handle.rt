@@ -5,7 +5,7 @@ ghost use Rattle.pcompact_c.specs.Handles.{parts_coded};
 
 use crate::raw_box::RawBox;
 use caller_heap::{Origin, Part, suits};
-use collector::{Halt, Progress};
+use collector::Progress;
 use std::alloc::Global;
 use std::marker::{Model, Send};
 use std::mem;
@@ -167,26 +167,26 @@ impl PcompactHandle {
     }
 
     /// Lets the worker fill regions that are ready, at most `turns`. Returns `None` if the handle isn't held.
-    pub(crate) fn work(&mut self, alloc: Global, turns: u64) -> Option<Result<Progress, Halt>>
+    pub(crate) fn work(&mut self, alloc: Global, turns: u64) -> Option<Progress>
         ensures image { image_in self.new ≡ image_in self.old }
         ensures origin { origin_in self.new ≡ origin_in self.old }
         ensures held { MatchOption result (self.old.2 ≡ None) (λ _. is_some self.old.2 ≡ true) }
     {
         let mut part = self.leave(alloc)?;
-        let worked = part.share.work(turns);
+        let progress = part.share.work(turns);
         self.enter(part);
-        Some(worked)
+        Some(progress)
     }
 
     /// Lets the worker fill regions until all are settled. Returns `None` if the handle isn't held.
-    pub(crate) fn work_all(&mut self, alloc: Global) -> Option<Result<(), Halt>>
+    pub(crate) fn work_all(&mut self, alloc: Global) -> Option<()>
         ensures image { image_in self.new ≡ image_in self.old }
         ensures origin { origin_in self.new ≡ origin_in self.old }
         ensures held { MatchOption result (self.old.2 ≡ None) (λ _. is_some self.old.2 ≡ true) }
     {
         let mut part = self.leave(alloc)?;
-        let worked = part.share.work_all();
+        part.share.work_all();
         self.enter(part);
-        Some(worked)
+        Some(())
     }
 }

@@ -1,9 +1,9 @@
 //! The work of a thread in a collection by several threads.
-ghost use Rattle.std.specs.Prelude.{◌≡◌, ◌≤◌, ◌↔◌, None};
+ghost use Rattle.std.specs.Prelude.{◌≡◌, ◌≤◌, ◌⊎◌, ◌↔◌, None};
 ghost use Rattle.pcompact_c.specs.Handles.{image_in, origin_in};
 
 use crate::handle::PcompactHandle;
-use collector::{Halt, Progress};
+use collector::Progress;
 use std::alloc::Global;
 
 /// All regions to fill are settled.
@@ -12,10 +12,6 @@ const SETTLED: u32 = 0;
 const TURNS_USED: u32 = 1;
 /// No region is ready. Another worker may make some ready.
 const NONE_READY: u32 = 2;
-/// Another worker has met a fault.
-const STOPPED: u32 = 3;
-/// This worker has met a fault.
-const FAILED: u32 = 4;
 /// The handle isn't held.
 const NOT_HELD: u32 = 5;
 
@@ -26,27 +22,25 @@ pub extern "C" fn pcompact_work(alloc: Global, handle: &mut PcompactHandle, turn
     ensures image { image_in handle.new ≡ image_in handle.old }
     ensures origin { origin_in handle.new ≡ origin_in handle.old }
     ensures not_held { result ≡ 5 ↔ handle.old.2 ≡ None }
-    ensures known { result ≤ 5 }
+    ensures known { (result ≤ 2) ⊎ (result ≡ 5) }
 {
     match handle.work(alloc, turns) {
-        Some(Ok(progress)) => number_of(progress),
-        Some(Err(halt)) => number_of_halt(halt),
+        Some(progress) => number_of(progress),
         None => NOT_HELD,
     }
 }
 
 /// Fills regions by the worker of a handle until all are settled, and spins while none is ready. Allocates nothing. Returns
-/// how it ended.
+/// that they are settled, or that the handle isn't held.
 #[unsafe(no_mangle)]
 pub extern "C" fn pcompact_work_all(alloc: Global, handle: &mut PcompactHandle) -> u32
     ensures image { image_in handle.new ≡ image_in handle.old }
     ensures origin { origin_in handle.new ≡ origin_in handle.old }
     ensures not_held { result ≡ 5 ↔ handle.old.2 ≡ None }
-    ensures known { result ≤ 5 }
+    ensures known { (result ≡ 0) ⊎ (result ≡ 5) }
 {
     match handle.work_all(alloc) {
-        Some(Ok(())) => SETTLED,
-        Some(Err(halt)) => number_of_halt(halt),
+        Some(()) => SETTLED,
         None => NOT_HELD,
     }
 }
@@ -59,15 +53,5 @@ fn number_of(progress: Progress) -> u32
         Progress::Settled => SETTLED,
         Progress::TurnsUsed => TURNS_USED,
         Progress::NoneReady => NONE_READY,
-    }
-}
-
-/// The number of why a worker ended before.
-fn number_of_halt(halt: Halt) -> u32
-    ensures { (3 ≤ result) × (result ≤ 4) }
-{
-    match halt {
-        Halt::Stopped => STOPPED,
-        Halt::Failed(_) => FAILED,
     }
 }

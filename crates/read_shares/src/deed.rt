@@ -1,5 +1,6 @@
 //! The right to have a box back whose value was shared out.
 ghost use Rattle.std.specs.Prelude.{◌≡◌, ℕ};
+ghost use Rattle.std_alloc.specs.Box.{box_allocator};
 ghost use Rattle.read_shares.specs.Parts.{all_parts};
 ghost use Rattle.read_shares.specs.Deed.{deed_owns};
 
@@ -31,6 +32,7 @@ pub fn share_out<T: Drop, A: Allocator>(whole: Box<T, A>) -> (Deed<T, A>, ReadSh
     ensures value { (result.0.value ≡ whole.value) × (result.1.value ≡ whole.value) }
     ensures same { result.1.origin ≡ result.0.origin }
     ensures all { result.1.parts ≡ all_parts }
+    ensures alloc { result.0.alloc ≡ box_allocator whole }
 {
     let (at, alloc) = Box::into_raw_with_allocator(whole);
     (Deed { at, alloc }, ReadShare { at })
@@ -40,7 +42,8 @@ pub fn share_out<T: Drop, A: Allocator>(whole: Box<T, A>) -> (Deed<T, A>, ReadSh
 pub fn unite<T, A: Allocator>(deed: Deed<T, A>, all: ReadShare<T>) -> Box<T, A>
     requires same { all.origin ≡ deed.origin }
     requires all { all.parts ≡ all_parts }
-    ensures { result.value ≡ deed.value }
+    ensures value { result.value ≡ deed.value }
+    ensures alloc { box_allocator result ≡ deed.alloc }
 {
     let Deed { at, alloc } = deed;
     let ReadShare { at: _ } = all;

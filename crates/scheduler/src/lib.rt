@@ -48,7 +48,7 @@ pub use laws::{
 };
 pub use moves::Moves;
 pub use moves::given_moves::GivenMoves;
-pub use moves::indexed_moves::IndexedMoves;
+pub use moves::indexed_moves::{IndexedMoves, first_places};
 pub use moves::tallies::{count_readers, count_sources};
 pub use reply::Reply;
 pub use schedule::line::Line;

@@ -4,10 +4,11 @@ ghost use Rattle.scheduler.specs.MoveTable.{region_count};
 ghost use Rattle.claim_board.specs.Boards.{moves as moves_of, identity, board_of, AllOf};
 
 use crate::checks::{equal, expect_memory_fault};
+use crate::cleared_boards::cleared_board_of;
 use crate::schedulers::moves_with_prefix;
 use crate::tables::table_of;
 use claim_board::{Board, Drained, Pass, Recorder, Ticket};
-use scheduler::{CallFault, GivenMoves, Moves, Reply};
+use scheduler::{Book, CallFault, GivenMoves, Moves, Reply};
 use std::alloc::{AllocError, Global};
 use std::test::Fail;
 
@@ -247,10 +248,13 @@ fn makes_board(alloc: Global, moves: &GivenMoves) -> Result<bool, AllocError> {
     Ok(is_opened(&board, &mut passes))
 }
 
-/// Whether a new recorder of these moves has an empty list.
-fn makes_recorder(alloc: Global, moves: &GivenMoves) -> Result<bool, AllocError> {
-    let schedule = Recorder::new(alloc, moves, 2)?.into_schedule();
-    Ok(schedule.workers() == 2 && schedule.is_empty())
+/// Whether a new recorder of these moves has an empty list, which lacks no call.
+fn makes_recorder(alloc: Global, moves: &GivenMoves) -> Result<bool, CallFault> {
+    let (board, _passes) = cleared_board_of(alloc, moves, 2)?;
+    let recorder = Recorder::new(board, Book::new(alloc, moves, 2)?);
+    let (board, schedule, missing) = recorder.into_parts();
+    let is_empty = schedule.workers() == 2 && schedule.is_empty() && missing.is_none();
+    Ok(is_empty && board.workers() == 2)
 }
 
 /// Whether both are right for the base heap with an allowance of 2 dead words.

@@ -8,7 +8,11 @@ mod boards;
 #[cfg(test)]
 mod checks;
 #[cfg(test)]
+mod cleared_boards;
+#[cfg(test)]
 mod recorder;
+#[cfg(test)]
+mod region_boards;
 #[cfg(test)]
 mod replays;
 #[cfg(test)]

@@ -55,8 +55,8 @@ fn reports_memory(alloc: Global, refusal: Refusal, has_begun: bool) -> Result<bo
     }
 }
 
-/// The script tests/build/test_crate_allocations.sh runs this with each allocation refused in turn. Only one refusal may fail the
-/// test: that of the line for the first claim, which is recorded before the gate is called.
+/// The script tests/build/test_crate_allocations.sh runs this with each allocation refused in turn. A line for which memory is
+/// refused loses the image only once all regions are filled.
 #[test]
 fn image_is_kept_where_refused_memory_is_reported(rt: HostRuntime) -> Result<(), Fail> {
     holds(&rt, is_kept_or_begun(rt.alloc(), &rt)?);

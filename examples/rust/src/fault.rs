@@ -11,7 +11,7 @@ pub struct Fault {
     pub number: u32,
     /// The field of fault 9, otherwise 0.
     pub field: u32,
-    /// The index of faults 6 and 17, the address of faults 7 to 9, the region of fault 15, otherwise 0.
+    /// The index of faults 6 and 17, the address of faults 7 to 9, otherwise 0.
     pub place: u64,
 }
 

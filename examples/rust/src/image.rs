@@ -68,7 +68,7 @@ impl Error for Uncompared {}
 ///
 /// # Errors
 ///
-/// The first fault of `before`, as [`check`] finds it, or 15, or else the first fault of `after`.
+/// The first fault of `before`, as [`check`] finds it, or else the first fault of `after`.
 pub fn verify(before: &[u8], after: &[u8]) -> Result<Option<Difference>, Uncompared> {
     let mut verdict = raw::Verdict::NONE;
     // SAFETY: as in `check`; the verdict is the callee's alone.

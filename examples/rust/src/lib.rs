@@ -70,8 +70,7 @@ pub fn summary(words: &[u64], live: &[u64], settings: Settings) -> Result<Figure
 ///
 /// # Errors
 ///
-/// Those of [`summary`], after each of which words and live addresses are as they were; and 15 if a check in the collection
-/// fails, which no test has seen, after which nothing is promised of them.
+/// Those of [`summary`], after each of which words and live addresses are as they were.
 pub fn collect(words: &mut [u64], live: &mut [u64], settings: Settings) -> Result<Figures, Fault> {
     raw::answered(|answer| {
         // SAFETY: two mutable slices don't overlap, and nobody else reads or writes there meanwhile.

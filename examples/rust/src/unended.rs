@@ -5,7 +5,7 @@ use crate::{Collection, Fault};
 pub struct Unended<'heap> {
     /// Why it is.
     pub fault: Fault,
-    /// After fault 11 it goes on, and may be ended once there is memory. After fault 15 it is over.
+    /// It goes on, and may be ended once there is memory.
     pub collection: Collection<'heap>,
 }
 

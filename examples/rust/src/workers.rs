@@ -13,10 +13,6 @@ pub enum Progress {
     TurnsUsed,
     /// No region is ready. Another worker may make some ready.
     NoneReady,
-    /// Another worker has met a fault, which [`Collection::end`] tells.
-    Stopped,
-    /// This worker has met a fault, which [`Collection::end`] tells.
-    Failed,
 }
 
 impl Progress {
@@ -25,8 +21,7 @@ impl Progress {
             0 => Progress::Settled,
             1 => Progress::TurnsUsed,
             2 => Progress::NoneReady,
-            3 => Progress::Stopped,
-            _ => Progress::Failed,
+            _ => unreachable!("a worker holds its handle"),
         }
     }
 }
@@ -137,7 +132,7 @@ impl<'heap> Collection<'heap> {
     ///
     /// # Errors
     ///
-    /// 11 if memory runs out, or 15 if a check in the collection failed, after which nothing is promised of words and list.
+    /// 11 if memory runs out, after which the collection goes on.
     pub fn end(mut self) -> Result<Figures, Unended<'heap>> {
         let ended = self.end_once();
         ended.map_err(|fault| Unended {

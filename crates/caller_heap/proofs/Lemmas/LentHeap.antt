@@ -47,4 +47,4 @@ all_held_again words after blocks b h e = e ∙ ap (map held) b ∙ held_told wo
 -- a fault of the image is why there is none
 pub why_no_image : (log : ℕ) (words : List Lent) (bytes listed : List ℕ) (fault : Fault) → bytes ≡ listed → IsMemoryOr (first_fault listed) fault → IsWhyLentKept log words bytes fault
 why_no_image log words bytes listed fault e (inl memory) = inl (inl memory)
-why_no_image log words bytes listed fault e (inr first) = inl (inr (inl (ap first_fault e ∙ first)))
+why_no_image log words bytes listed fault e (inr first) = inl (inr (ap first_fault e ∙ first))

@@ -1,30 +1,12 @@
--- How the places of pairs are found.
-use Rattle.std.proofs.Common.{◌≡◌, ◌≢◌, ◌⊎◌, ℕ, zero, suc, ◌+◌, ◌<◌, ◌≤◌, Bool, true, false, cond, List, [], ◌∷◌, ◌++◌, length, take, sym, ap, ◌∙◌, subst, inl, inr, arith, eq-eqb, ne_eqb, length-set, get_or-set_same, get_or-set_other, nat_lt}
-use Rattle.std.proofs.Math.Seq.{take-suc}
+-- How the readers of each region are found.
+use Rattle.std.proofs.Common.{◌≡◌, ◌≢◌, ◌⊎◌, ℕ, zero, suc, ◌+◌, ◌<◌, ◌≤◌, Bool, true, false, cond, List, [], ◌∷◌, length, take, sym, ap, ◌∙◌, subst, inl, inr, arith, eq-eqb, ne_eqb, length-set, get_or-set_same, get_or-set_other, nat_lt}
 use Rattle.std.specs.Prelude.{◌==◌, slice_index_or, slice_set, count_by, if◌then◌else◌}
 use Rattle.std.proofs.lemmas.Bool.{cases_eq, cases_lt, lt-ltb, ltb-true, false_from_ne_true}
-use Rattle.std.proofs.lemmas.List.{take_all, length-append}
+use Rattle.std.proofs.lemmas.List.{take_all}
 use Rattle.std.proofs.lemmas.List.Sums.{count_by_more_yes, count_by_more_no, sum_by-cons}
-use Rattle.scheduler.specs.MoveTable.{MoveTable, IsMoveTable, IsFirstPlace, region_count, reads, has_source}
-use Rattle.claim_board.specs.Places.{AreReaders, AreReadersIn, AreAllReadersIn, IsListed, with_reader, source_at, counted}
-use Rattle.claim_board.proofs.Lemmas.Places.{pair, next_place, place_after, next_destination}
-
-same_pair : (q : ℕ × ℕ) (d s : ℕ) → q.0 ≡ d → q.1 ≡ s → q ≡ (d, s)
-same_pair q d s a b = λ i. (a i, b i)
-
--- one pair more is listed
-pub one_listed : (m : MoveTable) → IsMoveTable m → (d from s : ℕ) (ps ps' : List (ℕ × ℕ)) → IsListed m d from ps → from ≤ s → reads m d s ≡ true → ((t : ℕ) → from ≤ t → t < s → reads m d t ≡ false) → ps' ≡ ps ++ (d, s) ∷ [] → IsListed m d (s + 1) ps'
-one_listed m table d from s ps ps' are low has least is =
-    let there = next_place m table d from s (length ps) are.0 low has least in
-    let long : length ps' ≡ length ps + 1 = ap length is ∙ length-append ps ((d, s) ∷ []) in
-    let more : suc (length ps) ≡ length ps' = omega arith in (
-      subst (λ (n : ℕ). IsFirstPlace m.pairs d (s + 1) n) (sym long) (place_after m table d from s (length ps) are.0 low there.0 there.1 there.2),
-      is ∙ (ap (λ xs. xs ++ (d, s) ∷ []) are.1 ∙ (ap (λ q. take (length ps) m.pairs ++ q ∷ []) (sym (same_pair (pair m (length ps)) d s there.1 there.2))
-          ∙ (sym (take-suc m.pairs (length ps) (0, 0) there.0) ∙ ap (λ n. take n m.pairs) more))),
-    )
-
-pub next_listed : (m : MoveTable) → IsMoveTable m → (d from : ℕ) (ps : List (ℕ × ℕ)) → IsListed m d from ps → ((t : ℕ) → from ≤ t → reads m d t ≡ false) → IsListed m (d + 1) 0 ps
-next_listed m table d from ps are none = (next_destination m table d from (length ps) are.0 none, are.1)
+use Rattle.scheduler.specs.MoveTable.{MoveTable, IsMoveTable, region_count, has_source}
+use Rattle.claim_board.specs.Places.{AreReaders, AreReadersIn, AreAllReadersIn, with_reader, source_at, counted}
+use Rattle.claim_board.proofs.Lemmas.Places.{pair}
 
 count_some : (p : ℕ × ℕ → Bool) (ps : List (ℕ × ℕ)) (n : ℕ) → count_by p (take n ps) ≤ count_by p ps
 count_some p ps zero = omega arith

@@ -1,5 +1,5 @@
 -- Lists whose end is taken off.
-use Rattle.std.proofs.Common.{◌≡◌, ℕ, zero, suc, ◌+◌, List, [], ◌∷◌, ◌++◌, length, map, get_or, take, refl, sym, ap, ◌∙◌, append_assoc, arith}
+use Rattle.std.proofs.Common.{◌≡◌, ℕ, zero, suc, ◌+◌, List, [], ◌∷◌, ◌++◌, length, get_or, take, refl, sym, ap, ◌∙◌, append_assoc, arith}
 use mathlib.Core.Option.{some, some-ne-none, some-injective}
 use lib.ListN.{get_elem?}
 
@@ -11,13 +11,13 @@ module _ {A : Type 0} where
   pub shorter : (whole front rest : List A) (x : A) → EndsIn whole front → front ≡ rest ++ x ∷ [] → EndsIn whole rest
   shorter whole front rest x e is = (x ∷ e.0, e.1 ∙ (ap (λ xs. xs ++ e.0) is ∙ append_assoc rest (x ∷ []) e.0))
 
-  middle : {B : Type 0} (f : A → B) (d : B) (xs ys : List A) (y : A) → get_or (map f (xs ++ y ∷ ys)) (length xs) d ≡ f y
-  middle f d [] ys y = refl
-  middle f d (x ∷ xs) ys y = middle f d xs ys y
+  middle : (d : A) (xs ys : List A) (y : A) → get_or (xs ++ y ∷ ys) (length xs) d ≡ y
+  middle d [] ys y = refl
+  middle d (x ∷ xs) ys y = middle d xs ys y
 
   -- the element that is taken off
-  pub last_is : {B : Type 0} (f : A → B) (d : B) (whole front rest : List A) (x : A) → EndsIn whole front → front ≡ rest ++ x ∷ [] → get_or (map f whole) (length rest) d ≡ f x
-  last_is f d whole front rest x e is = ap (λ xs. get_or (map f xs) (length rest) d) (e.1 ∙ (ap (λ xs. xs ++ e.0) is ∙ append_assoc rest (x ∷ []) e.0)) ∙ middle f d rest e.0 x
+  pub last_is : (d : A) (whole front rest : List A) (x : A) → EndsIn whole front → front ≡ rest ++ x ∷ [] → get_or whole (length rest) d ≡ x
+  last_is d whole front rest x e is = ap (λ xs. get_or xs (length rest) d) (e.1 ∙ (ap (λ xs. xs ++ e.0) is ∙ append_assoc rest (x ∷ []) e.0)) ∙ middle d rest e.0 x
 
   -- one element more is taken
   take_one : (xs : List A) (i : ℕ) (y : A) → get_elem? xs i ≡ some y → take (suc i) xs ≡ take i xs ++ y ∷ []

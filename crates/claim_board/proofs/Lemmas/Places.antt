@@ -162,21 +162,6 @@ module _ (m : MoveTable) (table : IsMoveTable m) where
               less (inr other) = later d from p i first le lt (inl (omega arith))
           go (inr h) = omega (arith, h.1)
 
-  pub first_of_all : IsFirstPlace m.pairs 0 0 0
-  first_of_all = record { inside = omega arith; before = λ i e lt. absurd (omega arith); after = λ i e le lt. not_before_from (get_or m.pairs i e) (0, 0) (go (get_or m.pairs i e)) }
-    where
-      go : (q : ℕ × ℕ) → IsBefore q (0, 0) → ⊥
-      go q (inl h) = omega arith
-      go q (inr h) = omega (arith, h.1)
-
-  -- after the last region there are no pairs
-  pub past_all : (p : ℕ) → IsFirstPlace m.pairs (region_count m) 0 p → p ≡ length m.pairs
-  past_all p first = go (cases_lt p (length m.pairs))
-    where
-      go : (p < length m.pairs) ⊎ (length m.pairs ≤ p) → p ≡ length m.pairs
-      go (inl lt) = absurd (later (region_count m) 0 p p first (omega arith) lt (inl (let a = slides p lt in let b = source_inside p lt in omega arith)))
-      go (inr le) = let z = first.inside in omega arith
-
   -- before the first place of a region, all destinations are lower
   pub lower : (r p i : ℕ) → IsFirstPlace m.pairs r 0 p → i < p → (pair m i).0 < r
   lower r p i first lt = go (earlier r 0 p i first lt)

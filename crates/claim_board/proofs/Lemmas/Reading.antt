@@ -5,11 +5,9 @@ use Rattle.std.proofs.lemmas.Bool.{or_left}
 use Rattle.atomic_table.specs.Table.{rest}
 use Rattle.scheduler.specs.MoveTable.{MoveTable, IsMoveTable, IsFirstPlace, reads}
 use Rattle.claim_board.specs.declared.regions.holding.Holding.{Holding}
-use Rattle.claim_board.specs.declared.regions.holding.Holding.TheVariants.{Share, Original, Moved}
 use Rattle.claim_board.specs.declared.rule.table_key.TableKey.{TableKey}
 use Rattle.claim_board.specs.Slots.{region_slot, first_of_slot}
 use Rattle.claim_board.specs.Holds.{pair_slot, still_out, IsHolding, IsReading}
-use Rattle.claim_board.specs.Holdings.{is_moved, words_of}
 use Rattle.claim_board.proofs.Lemmas.Places.{pair, next_place, place_after, next_destination, not_lower, slides}
 use Rattle.claim_board.proofs.Lemmas.Held.{out_next, out_skip}
 
@@ -27,13 +25,6 @@ module _ {A : Type 0} where
 
 pair_is : (q : ℕ × ℕ) (r s : ℕ) → q.0 ≡ r → q.1 ≡ s → q ≡ (r, s)
 pair_is q r s a b = λ i. (a i, b i)
-
--- the slot of a region that has moved
-pub moved_is : (x : Option Holding) (w : List ℕ) → is_moved x ≡ true → w ≡ words_of x → Some (Moved w) ≡ x
-moved_is None w is e = absurd (true≢false (sym is))
-moved_is (Some (Moved v)) w is e = ap (λ u. Some (Moved u)) e
-moved_is (Some (Share s)) w is e = absurd (true≢false (sym is))
-moved_is (Some (Original d s)) w is e = absurd (true≢false (sym is))
 
 -- a source that isn't pending, and isn't drained, isn't read
 pub unread : (m : MoveTable) (drained : Bool) (r s : ℕ) → (reads m r s && not drained) ≡ false → drained ≡ false → reads m r s ≡ false

@@ -1,15 +1,16 @@
 -- How regions are shared out into the slots.
-use Rattle.std.proofs.Common.{◌≡◌, ◌≢◌, ◌⊎◌, ℕ, zero, suc, ◌+◌, ◌-◌, ◌<◌, ◌≤◌, Bool, true, false, List, [], ◌∷◌, length, map, Option, Some, None, refl, sym, ap, ◌∙◌, subst, inl, inr, arith, length-set, get_or-set_same, get_or-set_other, nat_lt}
+use Rattle.std.proofs.Common.{◌≡◌, ◌≢◌, ◌⊎◌, ℕ, zero, suc, ◌+◌, ◌-◌, ◌<◌, ◌≤◌, Bool, true, false, List, [], ◌∷◌, length, Option, Some, None, refl, sym, ap, ◌∙◌, subst, inl, inr, arith, length-set, get_or-set_same, get_or-set_other, nat_lt}
 use Rattle.std.specs.Prelude.{slice_get, slice_index_or, slice_set, if◌then◌else◌}
 use Rattle.std.proofs.lemmas.Bool.{cases_eq, lt-ltb, ltb-true}
 use Rattle.read_shares.specs.Parts.{all_parts}
+use Rattle.box_row.specs.declared.place.InRow.{InRow}
 use Rattle.read_shares.specs.declared.share.ReadShare.{ReadShare}
 use Rattle.scheduler.specs.MoveTable.{MoveTable, region_count}
 use Rattle.claim_board.specs.declared.regions.holding.Holding.{Holding}
 use Rattle.claim_board.specs.declared.regions.holding.Holding.TheVariants.{Share, Moved}
 use Rattle.claim_board.specs.Slots.{region_slot, all_slots}
 use Rattle.claim_board.specs.Holds.{pair_slot}
-use Rattle.claim_board.specs.Holdings.{IsSharedOut, IsPartOf, is_original, origin_of, share_origin, parts_of, in_pair, in_region, words_of, AreRegions}
+use Rattle.claim_board.specs.Holdings.{IsSharedOut, IsPartOf, is_original, origin_of, share_origin, parts_of, in_pair, in_region, lies_in, words_of, AreRegions}
 use Rattle.claim_board.specs.Places.{AreReaders, source_at, counted}
 use Rattle.claim_board.specs.Sharings.{SharesOut, AreSharedFrom, with_right}
 
@@ -69,14 +70,15 @@ module _ (m : MoveTable) (r : ℕ) (two : ℕ × ℕ) (are : AreReaders m r two)
       go (inr other) (inr apart) = absurd (are.others p lt apart other is)
 
 -- the region and its rights, as they were split off
-pub shares_region : (m : MoveTable) (r : ℕ) (two : ℕ × ℕ) → AreReaders m r two → r < region_count m → (old values : List (Option Holding)) → length old ≡ all_slots m → (z : Option Holding) (s0 s1 s2 : ReadShare (List ℕ)) (words : List ℕ)
+pub shares_region : (m : MoveTable) (r : ℕ) (two : ℕ × ℕ) → AreReaders m r two → r < region_count m → (old values : List (Option Holding)) → length old ≡ all_slots m → (z : Option Holding) (s0 s1 s2 : ReadShare (List ℕ)) (words : List ℕ) (spot : InRow)
     → values ≡ slice_set (with_right (length m.pairs) (with_right (length m.pairs) old two.0 (Some (Share (record s0 { parts = 1 })))) two.1 (Some (Share (record s1 { parts = 1 })))) (region_slot m r) z
-    → is_original z ≡ true → words_of z ≡ words → share_origin z ≡ s2.origin → parts_of z ≡ s2.parts → s0.value ≡ words → s0.origin ≡ origin_of z → s0.parts ≡ all_parts
-    → s1.value ≡ s0.value → s1.origin ≡ s0.origin → s1.parts + counted m two.0 ≡ s0.parts → s2.origin ≡ s1.origin → s2.parts + counted m two.1 ≡ s1.parts → SharesOut m r words old values
-shares_region m r two are inside old values all z s0 s1 s2 words is zi zw zs zp v0 o0 p0 v1 o1 p1 o2 p2 = subst (SharesOut m r words old) (sym is) (record {
+    → is_original z ≡ true → words_of z ≡ words → lies_in z ≡ Some spot → share_origin z ≡ s2.origin → parts_of z ≡ s2.parts → s0.value ≡ words → s0.origin ≡ origin_of z → s0.parts ≡ all_parts
+    → s1.value ≡ s0.value → s1.origin ≡ s0.origin → s1.parts + counted m two.0 ≡ s0.parts → s2.origin ≡ s1.origin → s2.parts + counted m two.1 ≡ s1.parts → SharesOut m r words spot old values
+shares_region m r two are inside old values all z s0 s1 s2 words spot is zi zw zl zs zp v0 o0 p0 v1 o1 p1 o2 p2 = subst (SharesOut m r words spot old) (sym is) (record {
   size = shared_size m r two are old x y z;
   region = subst (IsSharedOut m r) (sym at) (record { original = zi; same = zs ∙ (o2 ∙ (o1 ∙ o0)); parts = let n = are.number in omega arith });
   words_are = ap words_of at ∙ zw;
+  lies = ap lies_in at ∙ zl;
   rights = λ p lt source. subst (λ v. IsPartOf v (in_pair m (slice_set (with_right (length m.pairs) (with_right (length m.pairs) old two.0 x) two.1 y) (region_slot m r) z) p)) (sym at)
       (shared_rights m r two are old x y z (IsPartOf z) all (record { share = refl; same = o0; words = v0 ∙ sym zw; one = refl }) (record { share = refl; same = o1 ∙ o0; words = v1 ∙ (v0 ∙ sym zw); one = refl }) p lt source);
   other_regions = shared_other m r two are old x y z;
@@ -93,12 +95,16 @@ shares_region m r two are inside old values all z s0 s1 s2 words is zi zw zs zp 
     at = shared_region m r two are old x y z all inside
 
 -- one region more is shared out
-pub one_shared : (m : MoveTable) (r : ℕ) (words : ℕ → List ℕ) (own : List ℕ) (old new : List (Option Holding)) → own ≡ words r → AreSharedFrom m (r + 1) words old → SharesOut m r own old new → AreSharedFrom m r words new
-one_shared m r words own old new is are shares = record { regions = λ q low inside. region q low inside (cases_eq q r); rights = λ p lt low. right p lt low (cases_eq (source_at m p) r) }
+pub one_shared : (m : MoveTable) (r : ℕ) (words : ℕ → List ℕ) (spots : ℕ → InRow) (own : List ℕ) (spot : InRow) (old new : List (Option Holding)) → own ≡ words r → spot ≡ spots r → AreSharedFrom m (r + 1) words spots old → SharesOut m r own spot old new
+    → AreSharedFrom m r words spots new
+one_shared m r words spots own spot old new is there are shares = record { regions = λ q low inside. region q low inside (cases_eq q r); rights = λ p lt low. right p lt low (cases_eq (source_at m p) r) }
   where
-    region : (q : ℕ) → r ≤ q → q < region_count m → (q ≡ r) ⊎ (q ≡ r → ⊥) → IsSharedOut m q (in_region m new q) × (words_of (in_region m new q) ≡ words q)
-    region q low inside (inl same) = subst (λ (k : ℕ). IsSharedOut m k (in_region m new k) × (words_of (in_region m new k) ≡ words k)) (sym same) (shares.region, shares.words_are ∙ is)
-    region q low inside (inr other) = let h = are.regions q (omega arith) inside in (subst (IsSharedOut m q) (sym (shares.other_regions q other)) h.0, ap words_of (shares.other_regions q other) ∙ h.1)
+    region : (q : ℕ) → r ≤ q → q < region_count m → (q ≡ r) ⊎ (q ≡ r → ⊥) → IsSharedOut m q (in_region m new q) × (words_of (in_region m new q) ≡ words q) × (lies_in (in_region m new q) ≡ Some (spots q))
+    region q low inside (inl same) = subst (λ (k : ℕ). IsSharedOut m k (in_region m new k) × (words_of (in_region m new k) ≡ words k) × (lies_in (in_region m new k) ≡ Some (spots k))) (sym same) (shares.region, shares.words_are ∙ is, shares.lies ∙ ap (λ s. Some s) there)
+    region q low inside (inr other) =
+        let h = are.regions q (omega arith) inside in
+        let e = shares.other_regions q other in
+        (subst (IsSharedOut m q) (sym e) h.0, ap words_of e ∙ h.1, ap lies_in e ∙ h.2)
 
     right : (p : ℕ) → p < length m.pairs → r ≤ source_at m p → (source_at m p ≡ r) ⊎ (source_at m p ≡ r → ⊥) → IsPartOf (in_region m new (source_at m p)) (in_pair m new p)
     right p lt low (inl same) = subst (λ (k : ℕ). IsPartOf (in_region m new k) (in_pair m new p)) (sym same) (shares.rights p lt same)
@@ -106,15 +112,19 @@ one_shared m r words own old new is are shares = record { regions = λ q low ins
         subst (λ v. IsPartOf v (in_pair m new p)) (sym (shares.other_regions (source_at m p) other))
         (subst (IsPartOf (in_region m old (source_at m p))) (sym (shares.other_rights p lt other)) (are.rights p lt (omega arith)))
 
-pub all_shared : (m : MoveTable) (words : ℕ → List ℕ) (values : List (Option Holding)) → length values ≡ all_slots m → AreSharedFrom m 0 words values → AreRegions m values
-all_shared m words values size are = record { size = size; regions = λ r inside. (are.regions r (omega arith) inside).0; rights = λ p lt. are.rights p lt (omega arith) }
+pub all_shared : (m : MoveTable) (words : ℕ → List ℕ) (spots : ℕ → InRow) (values : List (Option Holding)) → length values ≡ all_slots m → AreSharedFrom m 0 words spots values → AreRegions m values
+all_shared m words spots values size are = record { size = size; regions = λ r inside. (are.regions r (omega arith) inside).0; rights = λ p lt. are.rights p lt (omega arith) }
 
 -- at first none is shared out
-pub none_shared : (m : MoveTable) (words : ℕ → List ℕ) (values : List (Option Holding)) (n : ℕ) → n ≡ region_count m → ((p : ℕ) → p < length m.pairs → source_at m p < region_count m) → AreSharedFrom m n words values
-none_shared m words values n all inside = record { regions = λ q low lt. absurd (omega arith); rights = λ p lt low. let z = inside p lt in absurd (omega arith) }
+pub none_shared : (m : MoveTable) (words : ℕ → List ℕ) (spots : ℕ → InRow) (values : List (Option Holding)) (n : ℕ) → n ≡ region_count m → ((p : ℕ) → p < length m.pairs → source_at m p < region_count m) → AreSharedFrom m n words spots values
+none_shared m words spots values n all inside = record { regions = λ q low lt. absurd (omega arith); rights = λ p lt low. let z = inside p lt in absurd (omega arith) }
 
--- the regions that have moved, with these words
-pub moved_there : (ws : List (List ℕ)) (r : ℕ) → r < length ws → slice_get (map (λ w. Moved w) ws) r ≡ Some (Moved (slice_index_or ws r []))
-moved_there [] r lt = absurd (omega arith)
-moved_there (w ∷ ws) zero lt = refl
-moved_there (w ∷ ws) (suc r) lt = moved_there ws r (omega arith)
+-- the regions that have moved, with these words, in the places from the n-th on
+abbrev pub moved_in : (ℕ → InRow) → ℕ → List (List ℕ) → List Holding
+moved_in spots n [] = []
+moved_in spots n (w ∷ ws) = Moved (w, spots n) ∷ moved_in spots (suc n) ws
+
+pub moved_there : (spots : ℕ → InRow) (n : ℕ) (ws : List (List ℕ)) (r : ℕ) → r < length ws → slice_get (moved_in spots n ws) r ≡ Some (Moved (slice_index_or ws r [], spots (n + r)))
+moved_there spots n [] r lt = absurd (omega arith)
+moved_there spots n (w ∷ ws) zero lt = let e : n ≡ n + 0 = omega arith in ap (λ k. Some (Moved (w, spots k))) e
+moved_there spots n (w ∷ ws) (suc r) lt = let e : suc n + r ≡ n + suc r = omega arith in moved_there spots (suc n) ws r (omega arith) ∙ ap (λ k. Some (Moved (slice_index_or ws r [], spots k))) e

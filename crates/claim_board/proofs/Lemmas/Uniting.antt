@@ -1,5 +1,5 @@
 -- How a region is united from its slots.
-use Rattle.std.proofs.Common.{◌≡◌, ◌≢◌, ◌⊎◌, ℕ, zero, suc, ◌+◌, ◌<◌, ◌≤◌, Bool, false, cond, List, [], ◌∷◌, ◌++◌, length, Option, None, refl, sym, ap, ◌∙◌, subst, inl, inr, arith, length-set, get_or-set_other, nat_lt}
+use Rattle.std.proofs.Common.{◌≡◌, ◌≢◌, ◌⊎◌, ℕ, zero, suc, ◌+◌, ◌<◌, ◌≤◌, Bool, false, cond, List, [], ◌∷◌, ◌++◌, length, Option, Some, None, refl, sym, ap, ◌∙◌, subst, inl, inr, arith, length-set, get_or-set_other, nat_lt}
 use Rattle.std.specs.Prelude.{slice_index_or, slice_set, if◌then◌else◌}
 use Rattle.std.proofs.lemmas.List.{length-append}
 use Rattle.std.proofs.lemmas.Bool.{cases_eq, cases_lt, lt-ltb, ltb-true, false_from_ne_true}
@@ -12,6 +12,13 @@ use Rattle.claim_board.specs.Places.{AreReaders, source_at, counted}
 use Rattle.claim_board.specs.Sharings.{with_right}
 use Rattle.claim_board.specs.Unions.{MayJoin, AreAllParts, IsWhole, IsComplete, ChangesOnly, AreUnited}
 use Rattle.claim_board.proofs.Lemmas.Sharing.{long_right, right_else}
+
+pub same_some : {A : Type 0} (x y : A) → Some x ≡ Some y → x ≡ y
+same_some x y e = ap (λ o. or_else x o) e
+  where
+    or_else : {A : Type 0} → A → Option A → A
+    or_else d None = d
+    or_else d (Some z) = z
 
 at_end : (ws : List (List ℕ)) (w : List ℕ) (k : ℕ) → k ≡ length ws → slice_index_or (ws ++ w ∷ []) k [] ≡ w
 at_end [] w zero e = refl
@@ -90,7 +97,7 @@ module _ (m : MoveTable) (r : ℕ) (two : ℕ × ℕ) (are : AreReaders m r two)
     is_whole (inr (shared, rights)) = inr (subst (λ v. AreAllParts v one other) (sym x_is) (parts_there shared rights))
 
 -- what another region's slots leave complete
-still_complete : (m : MoveTable) (n r : ℕ) (old new : List (Option Holding)) → ChangesOnly m n old new → r ≢ n → IsComplete m r old → IsComplete m r new
+pub still_complete : (m : MoveTable) (n r : ℕ) (old new : List (Option Holding)) → ChangesOnly m n old new → r ≢ n → IsComplete m r old → IsComplete m r new
 still_complete m n r old new only apart (inl moved) = inl (ap is_moved (only.regions r apart) ∙ moved)
 still_complete m n r old new only apart (inr (shared, rights)) = inr (
   subst (IsSharedOut m r) (sym (only.regions r apart)) shared,

@@ -1,42 +1,82 @@
-//! `Recorder`: a board under a lock that keeps its calls.
+//! `Recorder`: a board that keeps regions, and a lock under which each call is written down.
+ghost use Rattle.std.specs.Prelude.{◌≡◌};
 ghost use Rattle.scheduler.specs.Schedule.{IsHistory};
-ghost use Rattle.scheduler.specs.Scheduler.{ArePairCounts};
 
-use crate::rule::key::Key;
-use scheduler::{LockedBoard, Schedule};
-use std::snapshot::Snapshot;
+use crate::regions::region_board::RegionBoard;
+use scheduler::{Book, CallFault, Event, Schedule};
+use std::sync::Mutex;
 
-/// A board under a lock that keeps each call with its reply, for a schedule. Threads share it by
-/// `&Recorder`; each calls it with the number of a worker.
+/// The calls so far, as long as none was missed.
+pub(crate) struct Notes {
+    book: Book,
+    /// Why a call is missing.
+    missing: Option<CallFault>,
+}
+
+impl Drop for Notes {
+    fn drop(self) {
+        let Self { book, missing: _ } = self;
+    }
+}
+
+impl Notes {
+    /// Writes a call down, unless one is missing already.
+    pub(crate) fn keep(&mut self, worker: u32, event: Event) {
+        if self.missing.is_some() {
+            return;
+        }
+        if worker >= self.book.workers() {
+            self.missing = Some(CallFault::Illegal);
+            return;
+        }
+        if let Err(fault) = self.book.apply(worker, event) {
+            self.missing = Some(fault);
+        }
+    }
+
+    /// The calls, and why those after them are missing.
+    fn into_schedule(self) -> (Schedule, Option<CallFault>)
+        ensures { IsHistory result.0 }
+    {
+        let Notes { book, missing } = self;
+        (book.into_schedule(), missing)
+    }
+}
+
+/// A board that keeps regions, and a lock under which each call is made and written down with its reply, for a schedule.
+/// Threads share it by `&Recorder`.
 pub struct Recorder {
-    pub(crate) board: LockedBoard,
-    /// For each region, the number of other regions that it reads.
-    pub(crate) sources: Vec<usize>,
-    /// The moves and the number of workers, for proofs only.
-    pub(crate) key: Snapshot<Key>,
-    ghost counted: { ArePairCounts key.value.moves (λ pair. pair.0) key.value.moves.pairs sources.items },
+    pub(crate) board: RegionBoard,
+    pub(crate) notes: Mutex<Notes>,
 }
 
 impl Drop for Recorder {
     fn drop(self) {
-        let Self {
-            board,
-            sources,
-            key,
-        } = self;
+        let Self { board, notes } = self;
     }
 }
 
 impl Recorder {
-    /// All calls so far, each with its reply.
-    pub fn into_schedule(self) -> Schedule
-        ensures { IsHistory result }
+    /// Records the calls of a board in a book. Both are of the same moves and workers and have no calls: if not, a call is
+    /// missing in the end.
+    pub fn new(board: RegionBoard, book: Book) -> Recorder
+        ensures { result.board ≡ board }
     {
-        let Recorder {
-            board,
-            sources: _,
-            key: _,
-        } = self;
-        board.into_schedule()
+        let notes = Mutex::new(Notes {
+            book,
+            missing: None,
+        });
+        Recorder { board, notes }
+    }
+
+    /// The board, the calls that are written down, each with its reply, and why those after them are missing, if so:
+    /// `Memory` if the list couldn't grow, and `Illegal` if the calls don't make a history.
+    pub fn into_parts(self) -> (RegionBoard, Schedule, Option<CallFault>)
+        ensures board { result.0 ≡ self.board }
+        ensures schedule { IsHistory result.1 }
+    {
+        let Recorder { board, notes } = self;
+        let (schedule, missing) = notes.into_inner().into_schedule();
+        (board, schedule, missing)
     }
 }

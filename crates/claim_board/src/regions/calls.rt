@@ -1,6 +1,7 @@
 //! The calls of a board that keeps regions. Each is the call of the same name of `Board`, by the same one atomic step. What it
 //! takes out of the slots and puts into them are plain reads and writes.
 ghost use Rattle.std.specs.Prelude.{◌≡◌, ◌==◌, ◌-◌, ℕ, suc, ◌+◌, ◌<◌, ◌≤◌, [], count_by, false, IfNone, IfSome, IsTrue, is_some, if◌then◌else◌};
+ghost use Rattle.std.specs.Box.{box_allocator};
 ghost use Rattle.scheduler.specs.declared.event.Event.TheVariants.{Claim, Look, Drain, Complete, Settle, Poll};
 ghost use Rattle.scheduler.specs.declared.reply.Reply.TheVariants.{Yes, No, All, More, Done as Completed};
 ghost use Rattle.scheduler.specs.MoveTable.{MoveTable, region_count, reads};
@@ -8,7 +9,7 @@ ghost use Rattle.claim_board.specs.Boards.{board_of, caller, seen, steps, held, 
 ghost use Rattle.claim_board.specs.Callers.{Caller};
 ghost use Rattle.claim_board.specs.Drains.{reply_of};
 ghost use Rattle.claim_board.specs.Grants.{IsGranted};
-ghost use Rattle.claim_board.specs.RegionBoards.{moves as moves_of, worker_count, identity, original_words, moved_words, Holds, Reads};
+ghost use Rattle.claim_board.specs.RegionBoards.{moves as moves_of, worker_count, identity, original_words, moved_words, spot, Holds, Reads};
 ghost use Rattle.claim_board.specs.Views.{IsPassView};
 ghost use Rattle.claim_board.specs.Tickets.{IsUnused, IsTicketOf, IsOpeningOf, IsClosedOf, IsWrittenOf, IsDoneOf};
 
@@ -26,10 +27,10 @@ use crate::tokens::done::Done;
 use crate::tokens::drained::Drained;
 use crate::tokens::opening::Opening;
 use crate::tokens::written::Written;
+use box_row::InRow;
 use raw_region::Region;
 use read_shares::ReadShare;
-use scheduler::{Moves, Reply, how_counts_go_down};
-use std::alloc::Global;
+use scheduler::{GivenMoves, Moves, Reply, how_counts_go_down};
 
 /// Exchanges the seat for one of the same worker that holds no slot. The slots of a region's readers stay out, for ever empty.
 fn shed(words: &Words, seat: &mut Place)
@@ -46,7 +47,7 @@ fn shed(words: &Words, seat: &mut Place)
 impl RegionBoard {
     /// Claims a region. Returns the region with its original words, which nobody reads any more, if and only if it is to be
     /// filled, unclaimed and without pending readers. The pass must hold nothing. `None` changes nothing.
-    pub fn claim(&self, pass: &mut Pass, region: u32) -> Option<(RegionTicket, Box<Region, Global>)>
+    pub fn claim(&self, pass: &mut Pass, region: u32) -> Option<(RegionTicket, Box<Region, InRow>)>
         requires board { board_of pass.old ≡ identity self.now }
         requires region { region < region_count (moves_of self.now) }
         requires bare { held pass.old ≡ [] }
@@ -56,6 +57,7 @@ impl RegionBoard {
         ensures left { IfSome result (λ granted. granted.0.ticket.left ≡ count_by (λ pair. region == pair.0) (moves_of self.now).pairs) }
         ensures granted { IfSome result (λ _. IsGranted (moves_of self.now) (worker_count self.now) region (seen pass.new)) }
         ensures words { IfSome result (λ granted. granted.1.value ≡ original_words self.now region) }
+        ensures place { IfSome result (λ granted. box_allocator granted.1 ≡ spot self.now region) }
         ensures holds { IfSome result (λ granted. Holds self.now granted.0 pass.new) }
         ensures refused { IfNone result (held pass.new ≡ []) }
     {
@@ -144,7 +146,7 @@ impl RegionBoard {
         pass: &mut Pass,
         ticket: RegionTicket,
         written: Written,
-        region: Box<Region, Global>,
+        region: Box<Region, InRow>,
     ) -> Done
         requires board { board_of pass.old ≡ identity self.now }
         requires ticket { IsTicketOf (moves_of self.now) (caller pass.old) ticket.ticket }
@@ -152,6 +154,7 @@ impl RegionBoard {
         requires written { IsWrittenOf ticket.ticket written }
         requires holds { Holds self.now ticket pass.old }
         requires moved { region.value ≡ moved_words self.now ticket.ticket.region }
+        requires place { box_allocator region ≡ spot self.now ticket.ticket.region }
         ensures entry { AppendsTo (moves_of self.now) (worker_count self.now) pass.old pass.new (Complete ticket.ticket.region) Completed }
         ensures step { MakesStep (moves_of self.now) (Complete ticket.ticket.region) pass.old pass.new }
         ensures done { (result.region ≡ ticket.ticket.region) × IsDoneOf (caller pass.new) result }
@@ -187,5 +190,21 @@ impl RegionBoard {
         ensures holds { held pass.new ≡ held pass.old }
     {
         calls::poll(&self.table.shared, pass, self.sources.len())
+    }
+
+    /// The board's moves. They have no index, as those of `Board::moves`.
+    pub fn moves(&self) -> &GivenMoves
+        ensures { result.now ≡ moves_of self.now }
+    {
+        &self.moves
+    }
+
+    /// The number of workers, 1 to 64.
+    pub fn workers(&self) -> u32
+        ensures count { result ≡ worker_count self.now }
+        ensures some { 1 ≤ result }
+        ensures few { result ≤ 64 }
+    {
+        self.workers
     }
 }

@@ -1,10 +1,11 @@
 //! How a granted claim gathers its region: the deed, and all rights to read it.
-ghost use Rattle.std.specs.Prelude.{◌≡◌, ◌+◌, ◌-◌, ◌<◌, ◌≤◌, List, [], ◌∷◌, ◌++◌, true, Option, None, ℕ, length, slice_index};
+ghost use Rattle.std.specs.Prelude.{◌≡◌, ◌+◌, ◌-◌, ◌<◌, ◌≤◌, List, [], ◌∷◌, ◌++◌, true, Option, Some, None, ℕ, length, slice_index};
+ghost use Rattle.std.specs.Box.{box_allocator};
 ghost use Rattle.atomic_table.specs.Table.{rest};
 ghost use Rattle.read_shares.specs.Parts.{all_parts};
 ghost use Rattle.scheduler.specs.MoveTable.{IsMoveTable, region_count};
 ghost use Rattle.claim_board.specs.declared.regions.holding.Holding.{Holding};
-ghost use Rattle.claim_board.specs.Holdings.{AreRegions, in_region, is_share, origin_of, parts_of, words_of};
+ghost use Rattle.claim_board.specs.Holdings.{AreRegions, in_region, is_share, lies_in, origin_of, parts_of, words_of};
 ghost use Rattle.claim_board.specs.Holds.{pair_slot, still_out, IsHolding};
 ghost use Rattle.claim_board.specs.Places.{ArePlaces};
 ghost use Rattle.claim_board.specs.Slots.{first_of_slot, region_slot};
@@ -12,9 +13,9 @@ ghost use Rattle.claim_board.specs.Slots.{first_of_slot, region_slot};
 use super::places::Places;
 use super::seat::{take_original, take_share};
 use crate::rule::{Place, Words};
+use box_row::InRow;
 use raw_region::Region;
 use read_shares::{ReadShare, unite};
-use std::alloc::Global;
 
 /// Joins the right of one reader to the share, if `index` is that of a pair.
 fn take_reader(
@@ -74,7 +75,7 @@ pub(crate) fn take_region(
     seat: &mut Place,
     places: &Places,
     region: u32,
-) -> Box<Region, Global>
+) -> Box<Region, InRow>
     requires seat { seat.old.table_id ≡ words.now.table_id }
     requires lawful { IsMoveTable words.now.key.moves }
     requires places { ArePlaces words.now.key.moves places.now }
@@ -85,6 +86,7 @@ pub(crate) fn take_region(
     ensures table { seat.new.table_id ≡ seat.old.table_id }
     ensures view { seat.new.me.0 ≡ seat.old.me.0 }
     ensures words { result.value ≡ words_of (in_region words.now.key.moves words.now.key.values.value.items region) }
+    ensures place { lies_in (in_region words.now.key.moves words.now.key.values.value.items region) ≡ Some (box_allocator result) }
     ensures held { IsHolding words.now.key region 0 (slice_index places.now.first.items region) seat.new.me.1 }
 {
     let (deed, mut share) = take_original(words, seat, places.pairs + region as usize);

@@ -1,7 +1,7 @@
 use super::whole::Whole;
+use box_row::InRow;
 use raw_region::Region;
 use read_shares::{Deed, ReadShare};
-use std::alloc::Global;
 
 /// What a slot holds.
 #[derive(Drop)]
@@ -9,7 +9,7 @@ pub enum Holding {
     /// The right by which a destination reads its source.
     Share(ReadShare<Region>),
     /// A region with its original words: the deed, and the parts that nobody reads with.
-    Original(Deed<Region, Global>, ReadShare<Region>),
+    Original(Deed<Region, InRow>, ReadShare<Region>),
     /// A region with its moved words.
     Moved(Whole),
 }

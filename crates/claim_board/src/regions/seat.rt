@@ -8,9 +8,9 @@ ghost use Rattle.claim_board.specs.Holdings.{is_share, is_original, origin_of, p
 
 use super::holding::Holding;
 use crate::rule::{Place, Words};
+use box_row::InRow;
 use raw_region::Region;
 use read_shares::{Deed, ReadShare};
-use std::alloc::Global;
 
 /// Takes what is in the slot on top, and leaves the slot empty.
 fn take(words: &Words, seat: &mut Place, slot: usize) -> Holding
@@ -40,7 +40,7 @@ pub(crate) fn take_original(
     words: &Words,
     seat: &mut Place,
     slot: usize,
-) -> (Deed<Region, Global>, ReadShare<Region>)
+) -> (Deed<Region, InRow>, ReadShare<Region>)
     requires seat { seat.old.table_id ≡ words.now.table_id }
     requires top { (x : Option Holding) × (is_original x ≡ true) × (seat.old.me.1 ≡ (slot, x) ∷ rest seat.old.me.1) }
     ensures table { seat.new.table_id ≡ seat.old.table_id }

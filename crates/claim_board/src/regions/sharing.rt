@@ -1,6 +1,7 @@
 //! How the regions are shared out into the slots, when a board is made.
-ghost use Rattle.std.specs.Prelude.{◌≡◌, ◌+◌, ◌<◌, ◌≤◌, ℕ, [], length, map, slice_index_or, cond, nat_lt, Some};
-ghost use Rattle.std.specs.Vec.{vec_capacity};
+ghost use Rattle.std.specs.Prelude.{◌≡◌, ◌+◌, ◌<◌, ◌≤◌, ℕ, [], length, slice_index_or, cond, nat_lt, Some};
+ghost use Rattle.std.specs.Box.{box_allocator};
+ghost use Rattle.box_row.specs.Rows.{IsSameRow, items, spot};
 ghost use Rattle.scheduler.specs.MoveTable.{MoveTable, IsMoveTable, region_count};
 ghost use Rattle.claim_board.specs.declared.regions.holding.Holding.TheVariants.{Share};
 ghost use Rattle.claim_board.specs.Places.{ArePlaces};
@@ -9,9 +10,9 @@ ghost use Rattle.claim_board.specs.Slots.{all_slots};
 
 use super::holding::Holding;
 use super::places::Places;
+use box_row::{InRow, Row};
 use raw_region::Region;
 use read_shares::{ReadShare, share_out};
-use std::alloc::Global;
 
 /// Splits a right to read off and puts it into the slot of a pair, if `index` is that of a pair.
 fn put_right(
@@ -37,12 +38,12 @@ fn share_region(
     values: &mut Vec<Option<Holding>>,
     places: &Places,
     region: usize,
-    whole: Box<Region, Global>,
+    whole: Box<Region, InRow>,
 )
     requires room { places.now.pairs + region < length values.old.items }
     requires inside { region < length places.now.readers.items }
     ensures size { length values.new.items ≡ length values.old.items }
-    ensures shared { (m : MoveTable) → ArePlaces m places.now → region < region_count m → length values.old.items ≡ all_slots m → SharesOut m region whole.value values.old.items values.new.items }
+    ensures shared { (m : MoveTable) → ArePlaces m places.now → region < region_count m → length values.old.items ≡ all_slots m → SharesOut m region whole.value (box_allocator whole) values.old.items values.new.items }
 {
     let (first, second) = places.readers[region];
     let (deed, mut share) = share_out(whole);
@@ -51,21 +52,16 @@ fn share_region(
     values[places.pairs + region] = Some(Holding::Original(deed, share));
 }
 
-/// Shares all regions out. The list of the regions comes back empty.
-pub(crate) fn share_all(
-    mut regions: Vec<Box<Region, Global>>,
-    values: &mut Vec<Option<Holding>>,
-    places: &Places,
-) -> Vec<Box<Region, Global>>
-    requires all { length regions.items ≡ length places.now.readers.items }
-    requires room { places.now.pairs + length regions.items ≡ length values.old.items }
-    ensures empty { result.items ≡ [] }
-    ensures capacity { vec_capacity result ≡ vec_capacity regions }
+/// Shares all regions out, so that none is left in the row.
+pub(crate) fn share_all(row: &mut Row<Region>, values: &mut Vec<Option<Holding>>, places: &Places)
+    requires all { length (items row.old) ≡ length places.now.readers.items }
+    requires room { places.now.pairs + length (items row.old) ≡ length values.old.items }
+    ensures empty { items row.new ≡ [] }
+    ensures same { IsSameRow row.old row.new }
     ensures size { length values.new.items ≡ length values.old.items }
-    ensures shared { (m : MoveTable) → IsMoveTable m → ArePlaces m places.now → length values.old.items ≡ all_slots m → AreSharedFrom m 0 (λ r. slice_index_or (map (λ b. b.value) regions.items) r []) values.new.items }
+    ensures shared { (m : MoveTable) → IsMoveTable m → ArePlaces m places.now → length values.old.items ≡ all_slots m → AreSharedFrom m 0 (λ r. slice_index_or (items row.old) r []) (spot row.old) values.new.items }
 {
-    while let Some(whole) = regions.pop() {
-        share_region(values, places, regions.len(), whole);
+    while let Some(whole) = row.pop() {
+        share_region(values, places, row.len(), whole);
     }
-    regions
 }

@@ -1,20 +1,22 @@
 //! How the regions are united again from what was in the slots.
-ghost use Rattle.std.specs.Prelude.{◌≡◌, ◌⊎◌, ◌+◌, ◌-◌, ◌<◌, ◌≤◌, suc, ℕ, true, [], length, map, slice_index_or, cond, nat_lt, if◌then◌else◌, vec_len, Option, Some, None};
-ghost use Rattle.std.specs.Vec.{vec_capacity};
+ghost use Rattle.std.specs.Prelude.{◌≡◌, ◌⊎◌, ◌+◌, ◌-◌, ◌<◌, ◌≤◌, ◌^◌, ◌==◌, ◌&&◌, not, suc, ℕ, true, false, IsTrue, [], length, slice_index_or, cond, nat_lt, if◌then◌else◌, Option, Some, None};
+ghost use Rattle.std.specs.Box.{box_allocator};
+ghost use Rattle.box_row.specs.Rows.{items, spot};
 ghost use Rattle.read_shares.specs.Parts.{all_parts};
 ghost use Rattle.scheduler.specs.MoveTable.{MoveTable, region_count};
 ghost use Rattle.claim_board.specs.declared.regions.holding.Holding.{Holding};
-ghost use Rattle.claim_board.specs.Holdings.{is_share, origin_of, parts_of, words_of, in_region};
+ghost use Rattle.claim_board.specs.Holdings.{LieIn, is_share, lies_in, origin_of, parts_of, words_of, in_region};
 ghost use Rattle.claim_board.specs.Places.{ArePlaces};
 ghost use Rattle.claim_board.specs.Sharings.{with_right};
 ghost use Rattle.claim_board.specs.Slots.{all_slots};
-ghost use Rattle.claim_board.specs.Unions.{IsWhole, IsComplete, ChangesOnly};
+ghost use Rattle.claim_board.specs.Unions.{IsWhole, IsComplete, ChangesOnly, AreLeft, Empties, AreReady};
 
 use super::holding::Holding;
 use super::places::Places;
+use super::slot_values::SlotValues;
+use box_row::{InRow, Row};
 use raw_region::Region;
 use read_shares::{ReadShare, unite};
-use std::alloc::Global;
 
 /// Joins a right to read, if there is one.
 fn join_right(share: &mut ReadShare<Region>, right: Option<Holding>)
@@ -33,13 +35,14 @@ fn join_right(share: &mut ReadShare<Region>, right: Option<Holding>)
 }
 
 /// The region, from what was in its slot and in those of its readers.
-fn whole(
+pub(crate) fn whole(
     region: Option<Holding>,
     one: Option<Holding>,
     other: Option<Holding>,
-) -> Box<Region, Global>
+) -> Box<Region, InRow>
     requires { IsWhole region one other }
-    ensures { result.value ≡ words_of region }
+    ensures words { result.value ≡ words_of region }
+    ensures place { lies_in region ≡ Some (box_allocator result) }
 {
     let Some(region) = region else {
         unreachable!();
@@ -57,51 +60,70 @@ fn whole(
 }
 
 /// Takes what is in the slot of a pair, if `index` is that of a pair.
-fn take_right(values: &mut Vec<Option<Holding>>, pairs: usize, index: usize) -> Option<Holding>
-    requires room { pairs ≤ length values.old.items }
-    ensures taken { result ≡ (if nat_lt index pairs then slice_index_or values.old.items (pairs - suc index) None else None) }
-    ensures left { values.new.items ≡ with_right pairs values.old.items index None }
+fn take_right<S: SlotValues>(values: &mut S, pairs: usize, index: usize) -> Option<Holding>
+    requires { index < pairs → IsTrue (S.is_left values.old (pairs - suc index)) }
+    ensures taken { result ≡ (if nat_lt index pairs then slice_index_or (S.items values.old) (pairs - suc index) None else None) }
+    ensures items { S.items values.new ≡ with_right pairs (S.items values.old) index None }
+    ensures left { (k : ℕ) → S.is_left values.new k ≡ (S.is_left values.old k && not (nat_lt index pairs && k == pairs - suc index)) }
+    ensures words { S.words values.new ≡ S.words values.old }
 {
     if index < pairs {
-        values[pairs - 1 - index].take()
+        values.take_slot(pairs - 1 - index)
     } else {
         None
     }
 }
 
-/// Unites a region, and takes its slots empty.
-fn unite_region(
-    values: &mut Vec<Option<Holding>>,
+/// Takes what is in the slots of a region: the region, and what its readers read it with.
+pub(crate) fn take_slots<S: SlotValues>(
+    values: &mut S,
     places: &Places,
     region: usize,
-) -> Box<Region, Global>
-    requires room { places.now.pairs + region < length values.old.items }
+) -> (Option<Holding>, Option<Holding>, Option<Holding>)
     requires inside { region < length places.now.readers.items }
-    requires complete { (m : MoveTable) × ArePlaces m places.now × (length values.old.items ≡ all_slots m) × IsComplete m region values.old.items }
-    ensures size { length values.new.items ≡ length values.old.items }
-    ensures words { (m : MoveTable) → ArePlaces m places.now → result.value ≡ words_of (in_region m values.old.items region) }
-    ensures others { (m : MoveTable) → ArePlaces m places.now → region < region_count m → length values.old.items ≡ all_slots m → ChangesOnly m region values.old.items values.new.items }
+    requires small { places.now.pairs + region < 2 ^ 64 }
+    requires left { (m : MoveTable) × ArePlaces m places.now × AreLeft m region (S.is_left values.old) }
+    ensures whole { (m : MoveTable) → ArePlaces m places.now → IsComplete m region (S.items values.old) → IsWhole result.0 result.1 result.2 }
+    ensures value { (m : MoveTable) → ArePlaces m places.now → result.0 ≡ in_region m (S.items values.old) region }
+    ensures others { (m : MoveTable) → ArePlaces m places.now → ChangesOnly m region (S.items values.old) (S.items values.new) }
+    ensures emptied { (m : MoveTable) → ArePlaces m places.now → Empties m region (S.is_left values.old) (S.is_left values.new) }
+    ensures words { S.words values.new ≡ S.words values.old }
 {
     let (first, second) = places.readers[region];
-    let value = values[places.pairs + region].take();
+    let value = values.take_slot(places.pairs + region);
     let one = take_right(values, places.pairs, first);
     let other = take_right(values, places.pairs, second);
+    (value, one, other)
+}
+
+/// Unites a region, and takes its slots empty.
+fn unite_region<S: SlotValues>(values: &mut S, places: &Places, region: usize) -> Box<Region, InRow>
+    requires inside { region < length places.now.readers.items }
+    requires small { places.now.pairs + region < 2 ^ 64 }
+    requires complete { (m : MoveTable) × ArePlaces m places.now × AreLeft m region (S.is_left values.old) × IsComplete m region (S.items values.old) }
+    ensures united { (m : MoveTable) → ArePlaces m places.now → result.value ≡ words_of (in_region m (S.items values.old) region) }
+    ensures place { (m : MoveTable) → ArePlaces m places.now → lies_in (in_region m (S.items values.old) region) ≡ Some (box_allocator result) }
+    ensures others { (m : MoveTable) → ArePlaces m places.now → ChangesOnly m region (S.items values.old) (S.items values.new) }
+    ensures emptied { (m : MoveTable) → ArePlaces m places.now → Empties m region (S.is_left values.old) (S.is_left values.new) }
+{
+    let (value, one, other) = take_slots(values, places, region);
     whole(value, one, other)
 }
 
-/// Unites all regions, and appends them to an empty list with room for them.
-pub(crate) fn unite_all(
-    mut values: Vec<Option<Holding>>,
+/// Unites all regions, and returns them from their row, in which none is.
+pub(crate) fn unite_all<S: SlotValues>(
+    values: &mut S,
     places: &Places,
-    mut room: Vec<Box<Region, Global>>,
-) -> Vec<Box<Region, Global>>
-    requires complete { (m : MoveTable) × ArePlaces m places.now × (length values.items ≡ all_slots m) × ((r : ℕ) → r < region_count m → IsComplete m r values.items) }
-    requires empty { room.items ≡ [] }
-    requires room { length places.now.readers.items ≤ vec_capacity room }
-    ensures { (m : MoveTable) → ArePlaces m places.now → length values.items ≡ all_slots m → ((r : ℕ) → r < region_count m → IsComplete m r values.items) → (length result.items ≡ region_count m) × ((r : ℕ) → r < region_count m → slice_index_or (map (λ b. b.value) result.items) r [] ≡ words_of (in_region m values.items r)) }
+    mut row: Row<Region>,
+) -> Vec<Region>
+    requires complete { (m : MoveTable) × ArePlaces m places.now × AreReady m (S.items values.old) (S.is_left values.old) × LieIn m (spot row) (S.items values.old) }
+    requires empty { items row ≡ [] }
+    requires room { length places.now.readers.items ≡ row.count }
+    ensures united { (m : MoveTable) → ArePlaces m places.now → AreReady m (S.items values.old) (S.is_left values.old) → (length result.items ≡ region_count m) × ((r : ℕ) → r < region_count m → slice_index_or result.items r [] ≡ words_of (in_region m (S.items values.old) r)) }
+    ensures emptied { (m : MoveTable) → ArePlaces m places.now → AreReady m (S.items values.old) (S.is_left values.old) → (k : ℕ) → (all_slots m ≤ k → S.is_left values.old k ≡ false) → S.is_left values.new k ≡ false }
 {
     for region in 0..places.readers.len() {
-        room.push_reserved(unite_region(&mut values, places, region));
+        row.push(unite_region(values, places, region));
     }
-    room
+    row.into_values()
 }

@@ -4,25 +4,22 @@ use Rattle.std.specs.Prelude.{All, map, Result, Ok, Err, OnOk}
 use Rattle.std.proofs.lemmas.List.{length-map}
 use Rattle.std.proofs.lemmas.List.Elements.{All-head, All-tail, All-cons}
 use Rattle.scheduler.specs.declared.event.Event.TheVariants.{Poll}
-use Rattle.scheduler.specs.declared.reply.Reply.{Reply}
 use Rattle.scheduler.specs.declared.reply.Reply.TheVariants.{All as AllReply}
 use Rattle.scheduler.specs.declared.entry.Entry.{Entry}
 use Rattle.scheduler.specs.MoveTable.{MoveTable}
 use Rattle.scheduler.specs.State.{AllAreSettled}
 use Rattle.scheduler.specs.History.{BeginsWith, calls_by, state_of}
-use Rattle.claim_board.specs.declared.board.Board.{Board}
 use Rattle.claim_board.specs.declared.pass.Pass.{Pass}
-use Rattle.claim_board.specs.Boards.{moves, worker_count, worker, seen, mine, caller, Appends}
+use Rattle.claim_board.specs.declared.regions.region_board.RegionBoard.{RegionBoard}
+use Rattle.claim_board.specs.Boards.{worker, seen, mine, AppendsTo}
+use Rattle.claim_board.specs.RegionBoards.{moves, worker_count}
 use Rattle.claim_board.specs.Callers.{Caller}
-use Rattle.collector.specs.Rest.{HasSettled, IsTidy, StaysTidy, AreSettledAtRest, AreAtRest, AreSame, IsFilled}
-use Rattle.collector.proofs.Lemmas.Rest.{tidy_poll}
+use Rattle.collector.specs.Rest.{HasSettled, IsTidy, AreSettledAtRest, AreAtRest, AreSame, IsFilled}
+use Rattle.collector.proofs.Lemmas.Rest.{StaysTidy}
 use Rattle.collector.proofs.Lemmas.Finishing.{polled_all, rest_is_filled}
 
-pub polled_tidy : (b : Board) (old new : Pass) (reply : Reply) → Appends b old new Poll reply → StaysTidy (caller old) (caller new)
-polled_tidy b old new reply a =
-    tidy_poll (caller old) (caller new) reply (record { board = a.board; worker = a.worker; seen = (a.history.before, a.history.begins, a.history.seen_is); mine = a.history.mine_is })
-
-pub polled_settled : (b : Board) (old new : Pass) → Appends b old new Poll AllReply → (log : List Entry) → BeginsWith log (seen new) → AllAreSettled (moves b) (state_of log)
+pub polled_settled : (b : RegionBoard) (old new : Pass) → AppendsTo (moves b) (worker_count b) old new Poll AllReply → (log : List Entry) → BeginsWith log (seen new)
+    → AllAreSettled (moves b) (state_of log)
 polled_settled b old new a = polled_all (moves b) (worker_count b) (worker old) (seen old) (mine old) (seen new) (mine new) a.history
 
 -- all is filled if the first worker has seen all settled
@@ -69,31 +66,27 @@ stays_tidy old new number calls = (number, λ tidy. subst (λ (k : ℕ). HasSett
 -- What the first worker has filled after it met all others is all that was left.
 pub filled_behind : (m : MoveTable) (workers count : ℕ) (first met done : Caller) (others others' : List Caller) → workers ≡ count → workers ≡ suc (length others) → AreAtRest (first ∷ others)
     → StaysTidy first met → AreSame others others' → All (λ c. BeginsWith (calls_by c.worker met.seen) c.mine) others'
-    → done.worker ≡ met.worker → BeginsWith done.seen met.seen → (HasSettled met.worker met.mine → HasSettled met.worker done.mine)
-    → (HasSettled met.worker met.mine → AreSettledAtRest m count met.worker met.seen done.seen) → IsFilled m workers (done ∷ others')
-filled_behind m workers count first met done others others' whole all_there rest stays same hears number later tidy settled =
+    → done.worker ≡ met.worker → IsTidy done → BeginsWith done.seen met.seen → AreSettledAtRest m count met.worker met.seen done.seen → IsFilled m workers (done ∷ others')
+filled_behind m workers count first met done others others' whole all_there rest stays same hears number tidy later settled =
     rest_is_filled m workers (done ∷ others') met.seen done.seen (omega (arith, all_there, same_length others others' same)) rest' others_heard later settled'
     (λ log all. (all zero done (omega arith)).0)
   where
     ready : AreAtRest (met ∷ others')
     ready = rest_again first met others others' rest stays same
 
-    own : IsTidy met
-    own = All-head IsTidy met others' ready.tidy
-
     rest' : AreAtRest (done ∷ others')
-    rest' = rest_again met done others' others' ready (number, λ t. subst (λ (k : ℕ). HasSettled k done.mine) (sym number) (tidy t)) (refl, refl)
+    rest' = rest_again met done others' others' ready (number, λ _. tidy) (refl, refl)
 
     settled' : AreSettledAtRest m workers 0 met.seen done.seen
     settled' = subst (λ (k : ℕ). AreSettledAtRest m k 0 met.seen done.seen) (sym whole)
-        (subst (λ (w : ℕ). AreSettledAtRest m count w met.seen done.seen) (ready.numbered zero met (omega arith)) (settled own))
+        (subst (λ (w : ℕ). AreSettledAtRest m count w met.seen done.seen) (ready.numbered zero met (omega arith)) settled)
 
     others_heard : (w : ℕ) (c : Caller) → w ≢ 0 → w < length (done ∷ others') → BeginsWith (calls_by w met.seen) (get_or (done ∷ others') w c).mine
     others_heard zero c apart inside = absurd (apart refl)
     others_heard (suc k) c apart inside =
         subst (λ (n : ℕ). BeginsWith (calls_by n met.seen) (get_or others' k c).mine) (rest'.numbered (suc k) c inside) (hears k c (omega arith))
 
--- four facts of a success, and what follows from them
-pub on_ok : {A E : Type 0} (result : Result A E) (P Q R S T : Type 0) → (P → Q → R → S → T) → OnOk result P → OnOk result Q → OnOk result R → OnOk result S → OnOk result T
-on_ok (Ok a) P Q R S T follows p q r s = follows p q r s
-on_ok (Err e) P Q R S T follows p q r s = tt
+-- three facts of a success, and what follows from them
+pub on_ok : {A E : Type 0} (result : Result A E) (P Q R T : Type 0) → (P → Q → R → T) → OnOk result P → OnOk result Q → OnOk result R → OnOk result T
+on_ok (Ok a) P Q R T follows p q r = follows p q r
+on_ok (Err e) P Q R T follows p q r = tt

@@ -38,11 +38,11 @@ stands_with log [] p all = (tt, all.0)
 stands_with log (q ∷ qs) p all = let rest = stands_with log qs p all.1 in ((all.0, rest.0), rest.1)
 
 -- the calls of one worker more
-pub more_calls : (log : List Entry) (front : List (Worker Pass)) (last : Worker Pass) → HasAllCalls log (callers_of caller front)
-    → BeginsWith log (seen last.seat) × (calls_by (worker last.seat) log ≡ mine last.seat) → HasAllCalls log (callers_of caller (front ++ last ∷ []))
+pub more_calls : (log : List Entry) (front : List Worker) (last : Worker) → HasAllCalls log (callers_of front)
+    → BeginsWith log (seen last.seat.pass) × (calls_by (worker last.seat.pass) log ≡ mine last.seat.pass) → HasAllCalls log (callers_of (front ++ last ∷ []))
 more_calls log front last all one =
     let P : Caller → Type 0 = λ c. BeginsWith log c.seen × (calls_by c.worker log ≡ c.mine) in
-    let f : Worker Pass → Caller = λ w. caller w.seat in
+    let f : Worker → Caller = λ w. caller w.seat.pass in
     subst (All P) (sym (map-append f front (last ∷ []))) (All-push P (map f front) (f last) all one)
 
 -- a legal history has no calls of workers beyond their number

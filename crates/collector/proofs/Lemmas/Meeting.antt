@@ -4,7 +4,6 @@ use Rattle.std.specs.Prelude.{All, map}
 use Rattle.std.proofs.lemmas.Bool.{cases_eq}
 use Rattle.std.proofs.lemmas.List.{length-map, get_or-map, get_or-set_same, get_or-set_other}
 use Rattle.std.proofs.lemmas.List.Elements.{All-map}
-use Rattle.claim_board.specs.declared.pass.Pass.{Pass}
 use Rattle.claim_board.specs.Boards.{worker, mine, caller}
 use Rattle.claim_board.specs.Callers.{Caller}
 use Rattle.collector.specs.declared.workers.worker.Worker.{Worker}
@@ -27,23 +26,23 @@ mapped P f (x ∷ xs) each k c inside =
     subst (P k) (sym (get_or-map f (x ∷ xs) k x c below)) (each k x below)
 
 -- the callers are at rest if each worker is
-pub at_rest : (workers : List (Worker Pass)) → ((k : ℕ) (w : Worker Pass) → k < length workers → (caller (get_or workers k w).seat).worker ≡ k)
-    → All (λ w. IsTidy (caller w.seat)) workers → AreAtRest (callers_of caller workers)
+pub at_rest : (workers : List Worker) → ((k : ℕ) (w : Worker) → k < length workers → (caller (get_or workers k w).seat.pass).worker ≡ k)
+    → All (λ w. IsTidy (caller w.seat.pass)) workers → AreAtRest (callers_of workers)
 at_rest workers numbered tidy =
     record {
-      numbered = mapped (λ (k : ℕ) (c : Caller). c.worker ≡ k) (λ (w : Worker Pass). caller w.seat) workers numbered;
-      tidy = All-map IsTidy (λ (w : Worker Pass). caller w.seat) workers tidy;
+      numbered = mapped (λ (k : ℕ) (c : Caller). c.worker ≡ k) (λ (w : Worker). caller w.seat.pass) workers numbered;
+      tidy = All-map IsTidy (λ (w : Worker). caller w.seat.pass) workers tidy;
     }
 
 -- a worker is replaced by itself with the same calls
-pub same_set : (workers : List (Worker Pass)) (i : ℕ) (y w : Worker Pass) → i < length workers → worker y.seat ≡ worker (get_or workers i w).seat
-    → mine y.seat ≡ mine (get_or workers i w).seat → AreSame (callers_of caller workers) (callers_of caller (set workers i y))
+pub same_set : (workers : List Worker) (i : ℕ) (y w : Worker) → i < length workers → worker y.seat.pass ≡ worker (get_or workers i w).seat.pass
+    → mine y.seat.pass ≡ mine (get_or workers i w).seat.pass → AreSame (callers_of workers) (callers_of (set workers i y))
 same_set [] i y w inside number calls = absurd (omega arith)
 same_set (x ∷ xs) zero y w inside number calls =
-    (ap (λ (k : ℕ). k ∷ map (λ (c : Caller). c.worker) (callers_of caller xs)) number, ap (λ l. l ∷ map (λ (c : Caller). c.mine) (callers_of caller xs)) calls)
+    (ap (λ (k : ℕ). k ∷ map (λ (c : Caller). c.worker) (callers_of xs)) number, ap (λ l. l ∷ map (λ (c : Caller). c.mine) (callers_of xs)) calls)
 same_set (x ∷ xs) (suc i) y w inside number calls =
     let rest = same_set xs i y w (omega arith) number calls in
-    (ap (λ (l : List ℕ). worker x.seat ∷ l) rest.0, ap (λ l. mine x.seat ∷ l) rest.1)
+    (ap (λ (l : List ℕ). worker x.seat.pass ∷ l) rest.0, ap (λ l. mine x.seat.pass ∷ l) rest.1)
 
 pub same_all : (a b c : List Caller) → AreSame a b → AreSame b c → AreSame a c
 same_all a b c ab bc = (bc.0 ∙ ab.0, bc.1 ∙ ab.1)

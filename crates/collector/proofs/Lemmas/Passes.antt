@@ -5,7 +5,7 @@ use Rattle.std.proofs.lemmas.List.{get_or_append_left, length_push, length-map}
 use Rattle.std.proofs.lemmas.List.Elements.{All-head, All-tail}
 use Rattle.std.proofs.Math.Seq.{get_or-append_seam}
 use Rattle.claim_board.specs.declared.pass.Pass.{Pass}
-use Rattle.claim_board.specs.Boards.{board_of, worker, caller, AllOf, ArePassesFrom, ArePasses}
+use Rattle.claim_board.specs.Boards.{board_of, worker, caller, held, AllOf, AllBare, ArePassesFrom, ArePasses}
 use Rattle.claim_board.specs.Callers.{Caller}
 use Rattle.collector.specs.Rest.{AreFresh}
 
@@ -45,3 +45,13 @@ fresh board passes all =
       numbered = λ k c inside. omega (arith, (fresh_from board 0 passes all k c (below k inside)).0);
       quiet = λ k c inside. let one = fresh_from board 0 passes all k c (below k inside) in (one.1, one.2);
     }
+
+-- each pass holds nothing, by recursion
+pub all_bare : (passes : List Pass) → All (λ p. held p ≡ []) passes → AllBare passes
+all_bare [] all = tt
+all_bare (p ∷ ps) all = (All-head (λ q. held q ≡ []) p ps all, all_bare ps (All-tail (λ q. held q ≡ []) p ps all))
+
+pub each_bare : (passes : List Pass) → AllBare passes → All (λ p. held p ≡ []) passes
+each_bare [] all k d inside = absurd (omega arith)
+each_bare (p ∷ ps) all zero d inside = all.0
+each_bare (p ∷ ps) all (suc i) d inside = each_bare ps all.1 i d (omega arith)

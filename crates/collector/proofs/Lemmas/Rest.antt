@@ -1,7 +1,7 @@
 -- Workers at rest, and what one of them fills after the others.
 use Rattle.std.proofs.Common.{◌≡◌, ◌≢◌, ◌⊎◌, ℕ, ◌+◌, ◌<◌, Bool, true, false, List, [], ◌∷◌, ◌++◌, Option, Some, None, refl, sym, ap, ◌∙◌, subst, inl, inr, append_assoc, append-nil, arith}
-use Rattle.std.specs.Prelude.{IsTrue, ◌==◌, ◌||◌, if◌then◌else◌, Result, Ok, Err, IfOk, OnOk}
-use Rattle.std.proofs.lemmas.Bool.{cases_Bool, cases_eq, or_left, or_right, eq-eqb, ne_eqb}
+use Rattle.std.specs.Prelude.{IsTrue, ◌==◌, ◌||◌, Err}
+use Rattle.std.proofs.lemmas.Bool.{cases_eq, or_left, or_right, eq-eqb, ne_eqb}
 use Rattle.std.proofs.lemmas.List.Elements.{filter-append}
 use Rattle.scheduler.specs.declared.event.Event.{Event}
 use Rattle.scheduler.specs.declared.event.Event.TheVariants.{Claim, Look, Drain, Complete, Settle, Poll, Copy}
@@ -11,18 +11,20 @@ use Rattle.scheduler.specs.declared.entry.Entry.{Entry}
 use Rattle.scheduler.specs.MoveTable.{MoveTable, IsMoveTable, to_fill}
 use Rattle.scheduler.specs.State.{State, opening, state_after}
 use Rattle.scheduler.specs.History.{entry, state_from, state_of, calls_by, BeginsWith, IsLegal, IsReached, TellsOwn}
-use Rattle.claim_board.specs.declared.board.Board.{Board}
 use Rattle.claim_board.specs.declared.pass.Pass.{Pass}
-use Rattle.claim_board.specs.Boards.{caller, Appends}
+use Rattle.claim_board.specs.declared.regions.region_board.RegionBoard.{RegionBoard}
+use Rattle.claim_board.specs.Boards.{caller, worker, held, AppendsTo}
+use Rattle.std.specs.Box.{box_allocator}
+use Rattle.claim_board.specs.RegionBoards.{moves, worker_count, original_words, spot, Holds}
 use Rattle.claim_board.specs.Rule.{Extends}
 use Rattle.claim_board.specs.Drains.{reply_of}
 use Rattle.claim_board.specs.Callers.{Caller, own, Gains}
 use Rattle.fill.specs.SourceDrains.{SourceDrain, drain_calls, GainsAll}
 use Rattle.claim_board.specs.Tickets.{IsUnused, IsTicketOf}
-use Rattle.collector.specs.declared.workers.held_ticket.HeldTicket.{HeldTicket}
+use Rattle.collector.specs.declared.workers.held_region.HeldRegion.{HeldRegion}
 use Rattle.collector.specs.declared.workers.end.End.{End}
 use Rattle.collector.specs.declared.workers.end.End.TheVariants.{Stopped, Failed}
-use Rattle.collector.specs.Rest.{HasSettled, IsTidy, IsTidyBut, StaysTidy, EndsTidy, Settles, OthersRest, AreSettledBelow}
+use Rattle.collector.specs.Rest.{HasSettled, IsTidy, Rests, IsAtRest, HoldsRegion, Ends, Settles, OthersRest, AreSettledBelow}
 
 -- states
 
@@ -99,6 +101,10 @@ rests_before worker past mid log first last rest =
 
 -- tidy workers
 
+-- the same worker, which is tidy again if it was
+abbrev pub StaysTidy : Caller → Caller → Type 0
+StaysTidy old new = (new.worker ≡ old.worker) × (IsTidy old → IsTidy new)
+
 gained_state : (old new : Caller) (event : Event) (reply : Reply) → Gains old new event reply → own new ≡ state_after (own old) old.worker event reply
 gained_state old new event reply g = ap state_of g.mine ∙ state_append opening old.mine (entry old.worker event reply ∷ [])
 
@@ -126,22 +132,6 @@ tidy_self c = (refl, λ tidy. tidy)
 
 pub tidy_all : (a b c : Caller) → StaysTidy a b → StaysTidy b c → StaysTidy a c
 tidy_all a b c ab bc = (bc.0 ∙ ab.0, λ tidy. bc.1 (ab.1 tidy))
-
--- a region that is claimed and past settled
-pub tidy_filled : (old mid new : Caller) (r : ℕ) → Gains old mid (Claim r) Yes → Settles r mid new → StaysTidy old new
-tidy_filled old mid new r g s = (s.worker ∙ g.worker, λ tidy q mine. go tidy q mine (cases_Bool (q == r)))
-  where
-    claimed : (q : ℕ) → (own mid).claimed q ≡ (if q == r then Some old.worker else (own old).claimed q)
-    claimed q = ap (λ (st : State). st.claimed q) (gained_state old mid (Claim r) Yes g)
-
-    settled : (q : ℕ) → (own mid).settled q ≡ (own old).settled q
-    settled q = ap (λ (st : State). st.settled q) (gained_state old mid (Claim r) Yes g)
-
-    go : IsTidy old → (q : ℕ) → (own new).claimed q ≡ Some new.worker → ((q == r) ≡ true) ⊎ ((q == r) ≡ false) → (own new).settled q ≡ true
-    go tidy q mine (inl here) = s.settled_too q ∙ or_left (q == r) ((own mid).settled q) here
-    go tidy q mine (inr apart) =
-        let before : (own old).claimed q ≡ Some old.worker = sym (s.claimed q ∙ (claimed q ∙ (rw apart refl))) ∙ (mine ∙ ap Some (s.worker ∙ g.worker)) in
-        s.settled_too q ∙ or_right (q == r) ((own mid).settled q) (settled q ∙ tidy q before)
 
 -- the calls of a fill, and the settling
 pub settles_filled : (old mid new : Caller) (r : ℕ) (drains : List SourceDrain) (answer reply : Reply)
@@ -233,48 +223,65 @@ module _ (m : MoveTable) (workers worker : ℕ) (past : List Entry) where
       go (inl same) = rw same (settled_later log before r longer (claimed_by ((state_of before).claimed r) refl (rw same at fills)))
       go (inr apart) = settled_later log before q longer (settled_below q (omega (arith, under, apart)) fills)
 
--- what an answered call has gained, where calls are told
-pub told : {A E : Type 0} (result : Result A E) (tells : Type 0) (P : Type 0) (Q : A → Type 0) → IfOk result (λ answer. tells → Q answer) → ((answer : A) → tells → Q answer → P) → OnOk result (tells → P)
-told (Ok answer) tells P Q gains use_it = λ t. use_it answer t (gains t)
-told (Err fault) tells P Q gains use_it = tt
-
--- one more look of a worker that has stayed tidy
-pub tidy_looked : (tells : Type 0) (first last new : Caller) (r : ℕ) (reply : Reply) → (tells → StaysTidy first last) → (tells → Gains last new (Look r) reply) → tells → StaysTidy first new
-tidy_looked tells first last new r reply tidy gains t = tidy_all first last new (tidy t) (tidy_look last new r reply (gains t))
-
--- a worker that was refused a region
-pub tidy_none : (tells : Type 0) (old new : Caller) (r : ℕ) → (tells → Gains old new (Claim r) No) → tells → StaysTidy old new
-tidy_none tells old new r gains t = tidy_refused old new r (gains t)
-
--- a worker that keeps the ticket of the region that it has claimed
-pub tidy_held : (m : MoveTable) (regions : ℕ) (old new : Caller) (r : ℕ) (held : HeldTicket) → Gains old new (Claim r) Yes → held.ticket.region ≡ r → IsUnused held.ticket → IsTicketOf m new held.ticket
-    → r < regions → (new.worker ≡ old.worker) × (IsTidy old → IsTidyBut m regions held new)
-tidy_held m regions old new r held g same unused own_ticket inside = (
-  g.worker,
-  λ tidy. record {
-    unused = unused;
-    own_ticket = own_ticket;
-    inside = rw same inside;
-    settled = λ q apart mine.
-        let state : own new ≡ state_after (own old) old.worker (Claim r) Yes = gained_state old new (Claim r) Yes g in
-        let other : (q == r) ≡ false = ne_eqb q r (λ e. apart (e ∙ sym same)) in
-        let claimed : (own new).claimed q ≡ (own old).claimed q = ap (λ (s : State). s.claimed q) state ∙ (rw other refl) in
-        ap (λ (s : State). s.settled q) state ∙ tidy q (sym claimed ∙ (mine ∙ ap Some g.worker));
-  },
-)
-
--- how a worker that has stayed tidy ends early
-pub ends_after : (X Y : Type 0) (m : MoveTable) (regions : ℕ) (end : End) (first last new : Caller) → StaysTidy first last → EndsTidy {X = X} m regions (Err end) last new → EndsTidy {X = Y} m regions (Err end) first new
-ends_after X Y m regions (Stopped None) first last new before ends = (ends.0 ∙ before.0, λ tidy. ends.1 (before.1 tidy))
-ends_after X Y m regions (Stopped (Some held)) first last new before ends = (ends.0 ∙ before.0, λ tidy. ends.1 (before.1 tidy))
-ends_after X Y m regions (Failed fault) first last new before ends = tt
-
--- a pass that was refused a region has settled what it had
-pub settled_still : (m : MoveTable) (workers worker : ℕ) (seen mine seen' mine' : List Entry) (r : ℕ) → Extends m workers worker seen mine (Claim r) No seen' mine' → HasSettled worker mine → HasSettled worker mine'
-settled_still m workers worker seen mine seen' mine' r x tidy =
-    let same : state_of mine' ≡ state_of mine = ap state_of x.mine_is ∙ state_append opening mine (entry worker (Claim r) No ∷ []) in
-    λ q claimed. ap (λ (s : State). s.settled q) same ∙ tidy q (sym (ap (λ (s : State). s.claimed q) same) ∙ claimed)
+-- passes
 
 -- a call that was appended to a pass is gained by its caller
-pub gained_by : (b : Board) (old new : Pass) (event : Event) (reply : Reply) → Appends b old new event reply → Gains (caller old) (caller new) event reply
-gained_by b old new event reply e = let x = e.history in record { board = e.board; worker = e.worker; seen = (x.before, x.begins, x.seen_is); mine = x.mine_is }
+pub gained_by : (m : MoveTable) (workers : ℕ) (old new : Pass) (event : Event) (reply : Reply) → AppendsTo m workers old new event reply → Gains (caller old) (caller new) event reply
+gained_by m workers old new event reply e = let x = e.history in record { board = e.board; worker = e.worker; seen = (x.before, x.begins, x.seen_is); mine = x.mine_is }
+
+pub rest_self : (p : Pass) → Rests p → IsAtRest p p
+rest_self p rest = (refl, rest)
+
+pub rest_all : (a b c : Pass) → IsAtRest a b → IsAtRest b c → IsAtRest a c
+rest_all a b c ab bc = (bc.0 ∙ ab.0, bc.1)
+
+-- a call that leaves tidy what is tidy, and holds as much
+pub rest_by : (old new : Pass) → StaysTidy (caller old) (caller new) → held new ≡ [] → Rests old → IsAtRest old new
+rest_by old new stays bare rest = (stays.0, (stays.1 rest.0, bare))
+
+pub rest_looked : (m : MoveTable) (workers : ℕ) (old new : Pass) (r : ℕ) (reply : Reply) → AppendsTo m workers old new (Look r) reply → held new ≡ held old → Rests old → IsAtRest old new
+rest_looked m workers old new r reply e same rest = rest_by old new (tidy_look (caller old) (caller new) r reply (gained_by m workers old new (Look r) reply e)) (same ∙ rest.1) rest
+
+pub rest_polled : (m : MoveTable) (workers : ℕ) (old new : Pass) (reply : Reply) → AppendsTo m workers old new Poll reply → held new ≡ held old → Rests old → IsAtRest old new
+rest_polled m workers old new reply e same rest = rest_by old new (tidy_poll (caller old) (caller new) reply (gained_by m workers old new Poll reply e)) (same ∙ rest.1) rest
+
+pub rest_refused : (m : MoveTable) (workers : ℕ) (old new : Pass) (r : ℕ) → AppendsTo m workers old new (Claim r) No → held new ≡ [] → Rests old → IsAtRest old new
+rest_refused m workers old new r e bare rest = rest_by old new (tidy_refused (caller old) (caller new) r (gained_by m workers old new (Claim r) No e)) bare rest
+
+-- a worker that keeps the region that it has claimed
+pub holds_claimed : (b : RegionBoard) (regions : ℕ) (old new : Pass) (r : ℕ) (h : HeldRegion) → AppendsTo (moves b) (worker_count b) old new (Claim r) Yes → h.ticket.ticket.region ≡ r
+    → IsUnused h.ticket.ticket → IsTicketOf (moves b) (caller new) h.ticket.ticket → Holds b h.ticket new → h.region.value ≡ original_words b r → box_allocator h.region ≡ spot b r → r < regions → Rests old → HoldsRegion b regions h new
+holds_claimed b regions old new r h e same unused own_ticket rights words place inside rest =
+    record {
+      unused = unused;
+      own_ticket = own_ticket;
+      inside = rw same inside;
+      rights = rights;
+      words = words ∙ ap (original_words b) (sym same);
+      place = place ∙ ap (spot b) (sym same);
+      settled = λ q apart mine.
+          let g : Gains (caller old) (caller new) (Claim r) Yes = gained_by (moves b) (worker_count b) old new (Claim r) Yes e in
+          let state : own (caller new) ≡ state_after (own (caller old)) (worker old) (Claim r) Yes = gained_state (caller old) (caller new) (Claim r) Yes g in
+          let other : (q == r) ≡ false = ne_eqb q r (λ e. apart (e ∙ sym same)) in
+          let claimed : (own (caller new)).claimed q ≡ (own (caller old)).claimed q = ap (λ (s : State). s.claimed q) state ∙ (rw other refl) in
+          ap (λ (s : State). s.settled q) state ∙ rest.0 q (sym claimed ∙ (mine ∙ ap Some g.worker));
+    }
+
+-- a worker that has settled the region that it held
+pub rest_settled : (b : RegionBoard) (regions : ℕ) (h : HeldRegion) (old new : Pass) → HoldsRegion b regions h old → Settles h.ticket.ticket.region (caller old) (caller new) → held new ≡ [] → IsAtRest old new
+rest_settled b regions h old new holds s bare = (s.worker, ((λ q mine. go q mine (cases_eq q h.ticket.ticket.region)), bare))
+  where
+    r : ℕ
+    r = h.ticket.ticket.region
+
+    go : (q : ℕ) → (own (caller new)).claimed q ≡ Some (worker new) → (q ≡ r) ⊎ (q ≡ r → ⊥) → (own (caller new)).settled q ≡ true
+    go q mine (inl same) = s.settled_too q ∙ or_left (q == r) ((own (caller old)).settled q) (eq-eqb q r same)
+    go q mine (inr apart) =
+        let before : (own (caller old)).claimed q ≡ Some (worker old) = sym (s.claimed q) ∙ (mine ∙ ap Some s.worker) in
+        s.settled_too q ∙ or_right (q == r) ((own (caller old)).settled q) (holds.settled q apart before)
+
+-- how a worker that was at rest before ends early
+pub ends_after : (X Y : Type 0) (b : RegionBoard) (regions : ℕ) (end : End) (first last new : Pass) → IsAtRest first last → Ends {X = X} b regions (Err end) last new → Ends {X = Y} b regions (Err end) first new
+ends_after X Y b regions (Stopped None) first last new before ends = (ends.0 ∙ before.0, ends.1)
+ends_after X Y b regions (Stopped (Some h)) first last new before ends = (ends.0 ∙ before.0, ends.1)
+ends_after X Y b regions (Failed fault) first last new before ends = tt

@@ -1,59 +1,51 @@
-ghost use Rattle.std.specs.Prelude.{◌≡◌, ◌<◌, ◌≤◌, ℕ, All, map, vec_len, IfOk};
-ghost use Rattle.scheduler.specs.ImageMoves.{image_table};
-ghost use Rattle.collector.specs.Rest.{AreFresh};
+ghost use Rattle.std.specs.Prelude.{◌≡◌, ◌<◌, ◌≤◌};
 
-use claim_board::{Board, Pass, Recorder, Seating};
+use claim_board::{HasBoard, RegionBoard};
 use std::alloc::{AllocError, Global};
 use summary::Plan;
 
-/// A desk that can be opened for the moves of an image.
-pub(crate) trait CollectionDesk: Seating {
-    /// The number of workers that have a seat.
-    ghost worker_count: { Self → ℕ };
+/// A desk of a collection: a board that keeps the regions, or a recorder around it.
+pub(crate) trait CollectionDesk: HasBoard {
+    /// What it needs besides the board.
+    type Equipment: Drop;
 
-    /// Makes a desk for the plan's moves, with a seat for each of 1 to 64 workers. Fails if memory runs out.
-    fn open(alloc: Global, plan: &Plan, workers: u32) -> Result<(Self, Vec<Self::Seat>), AllocError>
-        requires some { 0 < workers }
-        requires few { workers ≤ 64 }
-        ensures moves { IfOk result (λ opened. Self.moves opened.0 ≡ image_table plan.now) }
-        ensures workers { IfOk result (λ opened. worker_count opened.0 ≡ workers) }
-        ensures count { IfOk result (λ opened. vec_len opened.1 ≡ workers) }
-        ensures seats { IfOk result (λ opened. All (Self.serves opened.0) opened.1.items) }
-        ensures fresh { Self.tells → IfOk result (λ opened. AreFresh (map Self.caller opened.1.items)) };
+    /// What it has recorded.
+    type Record: Drop;
 
-    /// Whether a look is no line of a schedule.
-    fn looks_freely(&self) -> bool;
+    /// Makes what it needs besides the board, for 1 to 64 workers. Fails if memory runs out.
+    fn equip(alloc: Global, plan: &Plan, workers: u32) -> Result<Self::Equipment, AllocError>
+        requires some { 1 ≤ workers }
+        requires few { workers ≤ 64 };
+
+    /// What contracts see of the record.
+    ghost recorded: { Self.Record → Type 0 };
+
+    /// The desk of a board on which no call was made.
+    fn of(board: RegionBoard, equipment: Self::Equipment) -> Self
+        ensures { Self.keeps result ≡ board };
+
+    /// The board, and what was recorded.
+    fn into_parts(self) -> (RegionBoard, Self::Record)
+        ensures board { result.0 ≡ Self.keeps self }
+        ensures record { recorded result.1 };
 }
 
-/// The seats are the passes.
-impl CollectionDesk for Board {
-    ghost use Rattle.claim_board.specs.Boards.{worker_count as count_of};
+impl CollectionDesk for RegionBoard {
+    type Equipment = ();
 
-    ghost worker_count = { count_of };
+    type Record = ();
 
-    #[tactic(auto, using(crate::proofs::Lemmas::Passes::all_seated))]
-    fn open(alloc: Global, plan: &Plan, workers: u32) -> Result<(Board, Vec<Pass>), AllocError> {
-        Board::new(alloc, plan, workers)
+    ghost recorded = { λ _. Unit {0} };
+
+    fn equip(_alloc: Global, _plan: &Plan, _workers: u32) -> Result<(), AllocError> {
+        Ok(())
     }
 
-    fn looks_freely(&self) -> bool {
-        true
-    }
-}
-
-/// The seats are the workers' numbers.
-impl CollectionDesk for Recorder {
-    ghost use Rattle.claim_board.specs.Recorders.{worker_count as count_of};
-
-    ghost worker_count = { count_of };
-
-    fn open(alloc: Global, plan: &Plan, workers: u32) -> Result<(Recorder, Vec<u32>), AllocError> {
-        let recorder = Recorder::new(alloc, plan, workers)?;
-        let numbers = (0..workers).collect(alloc)?;
-        Ok((recorder, numbers))
+    fn of(board: RegionBoard, _equipment: ()) -> RegionBoard {
+        board
     }
 
-    fn looks_freely(&self) -> bool {
-        false
+    fn into_parts(self) -> (RegionBoard, ()) {
+        (self, ())
     }
 }

@@ -1,61 +1,68 @@
 //! The compaction of an image by workers, over any desk.
-ghost use Rattle.std.specs.Prelude.{◌≡◌, ◌<◌, ◌≤◌, ◌↔◌, ◌⊎◌, ℕ, [], All, vec_len, IfOk, IfErr, OnOk, IfSome, IfNone, slice_index_or, length, None, Err};
+ghost use Rattle.std.specs.Prelude.{◌≡◌, ◌<◌, ◌≤◌, ◌↔◌, ◌⊎◌, ℕ, [], All, vec_len, IfOk, IfErr, OnOk, IfSome, IfNone, slice_index_or, length, map, None, Err, if◌then◌else◌};
 ghost use Rattle.std.specs.Vec.{vec_capacity};
 ghost use Rattle.summary.specs.RegionData.{fill_count};
 ghost use Rattle.summary.specs.Compaction.{compact};
 ghost use Rattle.scheduler.specs.ImageMoves.{image_table};
+ghost use Rattle.scheduler.specs.MoveTable.{region_count, to_fill};
 ghost use Rattle.scheduler.specs.State.{AllAreSettled};
 ghost use Rattle.scheduler.specs.History.{IsLegal, state_of};
 ghost use Rattle.scheduler.specs.Whole.{HasEachOnce};
-ghost use Rattle.claim_board.specs.Boards.{moves as moves_of, worker_count, identity, board_of, caller};
 ghost use Rattle.claim_board.specs.Finishes.{history};
-ghost use Rattle.fill.specs.FillFaults.{IsOverwritten};
+ghost use Rattle.claim_board.specs.RegionBoards.{moves as moves_of, worker_count, original_words, moved_words};
 ghost use Rattle.collector.specs.Halts.{IsLostTo, met_fault};
-ghost use Rattle.collector.specs.Rest.{AreFresh, AreStopped, IsFilled, callers_of};
+ghost use Rattle.collector.specs.Rest.{Rests, AreFresh, AreStopped, IsFilled, AreOf, AreBare, callers_of};
 ghost use Rattle.collector.specs.Collections.{figures_of, AreNoneOrTooMany, IfKept, IfLost};
 ghost use Rattle.collector.specs.declared.outcome.Refusal.TheVariants.{Kept};
 ghost use Rattle.collector.specs.declared.workers.end.End.TheVariants.{Failed};
 
+use super::clean_up::clean_up;
 use super::collection_desk::CollectionDesk;
+use super::preparing::keep_regions;
 use super::redirector::Redirector;
 use crate::gate::Gate;
 use crate::outcome::{Outcome, Refusal};
 use crate::workers::fill_left::fill_left;
 use crate::workers::fill_task::{FillTask, work_all};
-use crate::workers::queues::workers_of;
+use crate::workers::queues::Queues;
 use crate::workers::shared::Shared;
 use crate::workers::start_line::StartLine;
 use crate::workers::worker::Worker;
-use claim_board::{Board, Desk, Finished, Pass};
+use claim_board::{Desk, Finished, Pass, RegionBoard};
 use heap_image::{Fault, Image};
+use raw_region::Region;
 use retry_policy::RetryPolicy;
 use scheduler::{MAX_WORKERS, moves_are_lawful, settled_histories_have_each_once};
 use std::alloc::Global;
+use std::sync::atomic::AtomicBool;
 use std::thread::Threads;
 use summary::{Survey, Surveyor};
 
 /// A compaction, and its 1 to 64 workers.
 #[derive(Drop)]
-pub(crate) struct Compaction<D: CollectionDesk + Drop>
-where
-    D::Seat: Drop,
-{
+pub(crate) struct Compaction<D: CollectionDesk + Drop> {
     pub(crate) shared: Shared<D>,
-    pub(crate) workers: Vec<Worker<D::Seat>>,
-    /// Empty, with room for the seats of all workers.
-    pub(crate) seats: Vec<D::Seat>,
+    pub(crate) workers: Vec<Worker>,
+    /// Empty, with room for the passes of all workers.
+    pub(crate) passes: Vec<Pass>,
     ghost handles: { vec_len shared.thieves ≡ vec_len workers },
-    ghost count: { D.worker_count shared.desk ≡ vec_len workers },
+    ghost count: { worker_count (D.keeps shared.desk) ≡ vec_len workers },
     ghost some: { 0 < vec_len workers },
     ghost few: { vec_len workers ≤ 64 },
-    ghost no_seats: { seats.items ≡ [] },
-    ghost room: { vec_len workers ≤ vec_capacity seats },
+    ghost no_passes: { passes.items ≡ [] },
+    ghost room: { vec_len workers ≤ vec_capacity passes },
 }
 
-impl<D: CollectionDesk + Drop> Compaction<D>
-where
-    D::Seat: Drop,
-{
+/// What a compaction leaves.
+#[derive(Drop)]
+pub(crate) struct Ended<D: CollectionDesk> {
+    pub(crate) outcome: Outcome,
+    pub(crate) finished: Finished,
+    pub(crate) survey: Survey,
+    pub(crate) record: D::Record,
+}
+
+impl<D: CollectionDesk + Drop> Compaction<D> {
     /// Surveys an image by the surveyor's threads, and takes all memory that its compaction needs.
     ///
     /// Returns `Kept` on failure, with fault 12 exactly if the number of workers, which is tested first, isn't 1 to 64, and
@@ -69,9 +76,10 @@ where
         requires { S.may_start }
         ensures survey { IfOk result (λ made. made.shared.survey ≡ image) }
         ensures workers { IfOk result (λ made. vec_len made.workers ≡ workers) }
-        ensures seats { IfOk result (λ made. All (λ w. D.serves made.shared.desk w.seat) made.workers.items) }
-        ensures fresh { D.tells → IfOk result (λ made. AreFresh (callers_of D.caller made.workers.items)) }
-        ensures stopped { D.tells → IfOk result (λ made. AreStopped (D.moves made.shared.desk) (fill_count made.shared.survey) D.caller made.workers.items) }
+        ensures seats { IfOk result (λ made. AreOf (D.keeps made.shared.desk) made.workers.items) }
+        ensures fresh { IfOk result (λ made. AreFresh (callers_of made.workers.items)) }
+        ensures rest { IfOk result (λ made. All (λ w. Rests w.seat.pass) made.workers.items) }
+        ensures stopped { IfOk result (λ made. AreStopped (D.keeps made.shared.desk) (fill_count made.shared.survey) made.workers.items) }
         ensures kept { IfErr result (λ refusal. IfKept refusal
             (λ back fault. (back ≡ image) × ((fault ≡ Fault.Memory) ⊎ (fault ≡ Fault.Workers)))) }
         ensures refused { result ≡ Err (Kept image Fault.Workers) ↔ AreNoneOrTooMany workers }
@@ -83,18 +91,28 @@ where
         let Ok(survey) = Survey::taking_over(alloc, &mut image, surveyor) else {
             return Err(Refusal::Kept(image, Fault::Memory));
         };
-        let Ok((desk, seats)) = D::open(alloc, survey.plan(), workers) else {
+        let Ok(queues) = Queues::new(alloc, survey.plan(), workers) else {
             return Err(Refusal::Kept(image, Fault::Memory));
         };
-        let Ok((workers, thieves, seats)) = workers_of(alloc, survey.plan(), seats) else {
+        let Ok(equipment) = D::equip(alloc, survey.plan(), workers) else {
             return Err(Refusal::Kept(image, Fault::Memory));
         };
-        match Shared::of(alloc, image, survey, desk, thieves) {
-            Ok(shared) => Ok(Compaction {
-                shared,
-                workers,
-                seats,
-            }),
+        match keep_regions(alloc, image, survey.plan(), workers) {
+            Ok((board, passes, parts)) => {
+                let (workers, thieves, passes) = queues.man(passes);
+                let shared = Shared {
+                    survey,
+                    desk: D::of(board, equipment),
+                    parts,
+                    thieves,
+                    stop: AtomicBool::new(false),
+                };
+                Ok(Compaction {
+                    shared,
+                    workers,
+                    passes,
+                })
+            }
             Err(image) => Err(Refusal::Kept(image, Fault::Memory)),
         }
     }
@@ -109,14 +127,14 @@ where
     ) -> Result<(), Fault>
     where
         D: Desk<W> + Sync,
-        D::Seat: Send,
-        requires seats { All (λ w. D.serves self.old.shared.desk w.seat) self.old.workers.items }
+        requires seats { AreOf (D.keeps self.old.shared.desk) self.old.workers.items }
+        requires fresh { AreFresh (callers_of self.old.workers.items) }
+        requires rest { All (λ w. Rests w.seat.pass) self.old.workers.items }
         ensures shared { self.new.shared ≡ self.old.shared }
         ensures workers { vec_len self.new.workers ≡ vec_len self.old.workers }
-        ensures seats { All (λ w. D.serves self.new.shared.desk w.seat) self.new.workers.items }
-        ensures stopped { OnOk result (D.tells → AreFresh (callers_of D.caller self.old.workers.items)
-            → AreStopped (D.moves self.new.shared.desk) (fill_count self.new.shared.survey) D.caller self.new.workers.items) }
-        ensures fault { IfErr result (IsLostTo D.may_fail (G.may_refuse gate.now) (vec_len self.old.workers) self.old.shared.survey) }
+        ensures seats { AreOf (D.keeps self.new.shared.desk) self.new.workers.items }
+        ensures stopped { OnOk result (AreStopped (D.keeps self.new.shared.desk) (fill_count self.new.shared.survey) self.new.workers.items) }
+        ensures fault { IfErr result (IsLostTo (G.may_refuse gate.now) (vec_len self.old.workers) self.old.shared.survey) }
     {
         let shared = &self.shared;
         let task = FillTask { shared, gate, wait };
@@ -126,9 +144,7 @@ where
             None => Ok(()),
         }
     }
-}
 
-impl Compaction<Board> {
     /// Runs all workers, if there are several. Returns the fault of the lowest worker that met one.
     pub(crate) fn work_if_several<'a, G: Gate + Sync, T: Threads + Sync, W: RetryPolicy + Sync>(
         &mut self,
@@ -136,14 +152,17 @@ impl Compaction<Board> {
         threads: &T,
         wait: &'a W,
     ) -> Result<(), Fault>
-        requires seats { All (λ w. board_of w.seat ≡ identity self.old.shared.desk) self.old.workers.items }
-        requires fresh { AreFresh (callers_of caller self.old.workers.items) }
-        requires stopped { AreStopped (moves_of self.old.shared.desk) (fill_count self.old.shared.survey) caller self.old.workers.items }
+    where
+        D: Desk<W> + Sync,
+        requires seats { AreOf (D.keeps self.old.shared.desk) self.old.workers.items }
+        requires fresh { AreFresh (callers_of self.old.workers.items) }
+        requires rest { All (λ w. Rests w.seat.pass) self.old.workers.items }
+        requires stopped { AreStopped (D.keeps self.old.shared.desk) (fill_count self.old.shared.survey) self.old.workers.items }
         ensures shared { self.new.shared ≡ self.old.shared }
         ensures workers { vec_len self.new.workers ≡ vec_len self.old.workers }
-        ensures seats { All (λ w. board_of w.seat ≡ identity self.new.shared.desk) self.new.workers.items }
-        ensures stopped { OnOk result (AreStopped (moves_of self.new.shared.desk) (fill_count self.new.shared.survey) caller self.new.workers.items) }
-        ensures fault { IfErr result (IsLostTo (λ _. ⊥) (G.may_refuse gate.now) (vec_len self.old.workers) self.old.shared.survey) }
+        ensures seats { AreOf (D.keeps self.new.shared.desk) self.new.workers.items }
+        ensures stopped { OnOk result (AreStopped (D.keeps self.new.shared.desk) (fill_count self.new.shared.survey) self.new.workers.items) }
+        ensures fault { IfErr result (IsLostTo (G.may_refuse gate.now) (vec_len self.old.workers) self.old.shared.survey) }
     {
         if self.workers.len() == 1 {
             return Ok(());
@@ -152,49 +171,69 @@ impl Compaction<Board> {
     }
 
     /// Fills what the workers left, in the caller's thread, once all of them have stopped. All regions to fill are settled
-    /// then. Returns the gate's refusal, or a cell's fault.
+    /// then. If it `asks`, it first asks the board whether they are. Returns the gate's refusal.
     pub(crate) fn fill_left<'a, G: Gate, W: RetryPolicy>(
         &mut self,
+        asks: bool,
         gate: &'a G,
         wait: &'a W,
     ) -> Result<(), Fault>
-        requires seats { All (λ w. board_of w.seat ≡ identity self.old.shared.desk) self.old.workers.items }
-        requires stopped { AreStopped (moves_of self.old.shared.desk) (fill_count self.old.shared.survey) caller self.old.workers.items }
+    where
+        D: Desk<W>,
+        requires seats { AreOf (D.keeps self.old.shared.desk) self.old.workers.items }
+        requires stopped { AreStopped (D.keeps self.old.shared.desk) (fill_count self.old.shared.survey) self.old.workers.items }
         ensures shared { self.new.shared ≡ self.old.shared }
         ensures workers { vec_len self.new.workers ≡ vec_len self.old.workers }
-        ensures seats { All (λ w. board_of w.seat ≡ identity self.new.shared.desk) self.new.workers.items }
-        ensures filled { OnOk result (IsFilled (moves_of self.new.shared.desk) (vec_len self.new.workers) (callers_of caller self.new.workers.items)) }
-        ensures fault { IfErr result (IsLostTo (λ _. ⊥) (G.may_refuse gate.now) (vec_len self.old.workers) self.old.shared.survey) }
+        ensures seats { AreOf (D.keeps self.new.shared.desk) self.new.workers.items }
+        ensures bare { OnOk result (AreBare self.new.workers.items) }
+        ensures filled { OnOk result (IsFilled (moves_of (D.keeps self.new.shared.desk)) (vec_len self.new.workers) (callers_of self.new.workers.items)) }
+        ensures fault { IfErr result (IsLostTo (G.may_refuse gate.now) (vec_len self.old.workers) self.old.shared.survey) }
     {
         let shared = &self.shared;
         let task = FillTask { shared, gate, wait };
-        fill_left(&task, self.workers.as_mut_slice())
+        fill_left(&task, self.workers.as_mut_slice(), asks)
+    }
+
+    /// Finishes the board of a compaction that is filled, and cleans up.
+    pub(crate) fn finish<R: Redirector>(self, redirector: &R) -> Ended<D>
+        requires start { R.may_start }
+        requires seats { AreOf (D.keeps self.shared.desk) self.workers.items }
+        requires bare { AreBare self.workers.items }
+        requires filled { IsFilled (moves_of (D.keeps self.shared.desk)) (vec_len self.workers) (callers_of self.workers.items) }
+        ensures image { result.outcome.image ≡ compact self.shared.survey }
+        ensures figures { result.outcome.figures ≡ figures_of self.shared.survey }
+        ensures legal { IsLegal (image_table self.shared.survey) (vec_len self.workers) (history result.finished) }
+        ensures once { HasEachOnce (image_table self.shared.survey) (history result.finished) }
+        ensures survey { result.survey ≡ self.shared.survey }
+        ensures record { D.recorded result.record }
+    {
+        let Compaction {
+            shared,
+            workers,
+            passes,
+        } = self;
+        let Shared {
+            survey,
+            desk,
+            parts,
+            ..
+        } = shared;
+        settled_histories_have_each_once();
+        moves_are_lawful(survey.plan());
+        let (board, record) = desk.into_parts();
+        let (finished, moved) = finish(board, workers, passes);
+        let outcome = clean_up(parts, moved, &survey, redirector);
+        Ended {
+            outcome,
+            finished,
+            survey,
+            record,
+        }
     }
 }
 
-/// Cleans up a compaction that is filled, and finishes its board. Returns fault 15 if a region has not moved.
-pub(crate) fn finish_collection<R: Redirector>(
-    filled: Compaction<Board>,
-    redirector: &R,
-) -> Result<(Outcome, Finished), Fault>
-    requires start { R.may_start }
-    requires seats { All (λ w. board_of w.seat ≡ identity filled.shared.desk) filled.workers.items }
-    requires filled { IsFilled (moves_of filled.shared.desk) (vec_len filled.workers) (callers_of caller filled.workers.items) }
-    ensures image { IfOk result (λ done. done.0.image ≡ compact filled.shared.survey) }
-    ensures figures { IfOk result (λ done. done.0.figures ≡ figures_of filled.shared.survey) }
-    ensures legal { IfOk result (λ done. IsLegal (image_table filled.shared.survey) (vec_len filled.workers) (history done.1)) }
-    ensures once { IfOk result (λ done. HasEachOnce (image_table filled.shared.survey) (history done.1)) }
-    ensures fault { IfErr result IsOverwritten }
-{
-    let (outcome, survey, board) = filled.shared.clean_up(redirector)?;
-    settled_histories_have_each_once();
-    moves_are_lawful(survey.plan());
-    let finished = finish(board, filled.workers, filled.seats);
-    Ok((outcome, finished))
-}
-
 /// The fault of the lowest worker that met one.
-fn first_fault<S>(workers: &[Worker<S>]) -> Option<Fault>
+fn first_fault(workers: &[Worker]) -> Option<Fault>
     ensures lowest { IfSome result (λ fault. (k : ℕ) × (w : _) × (k < length workers.now)
         × (slice_index_or workers.now k w ≡ w) × (w.result ≡ Err (Failed fault))
         × ((j : ℕ) (v : _) → j < k → met_fault (slice_index_or workers.now j v).result ≡ None)) }
@@ -209,21 +248,28 @@ fn first_fault<S>(workers: &[Worker<S>]) -> Option<Fault>
     None
 }
 
-/// Finishes the board with the passes of all workers, for which `passes` has room.
-fn finish(board: Board, mut workers: Vec<Worker<Pass>>, mut passes: Vec<Pass>) -> Finished
-    requires seats { All (λ w. board_of w.seat ≡ identity board) workers.items }
+/// Finishes the board with the passes of all workers, for which `passes` has room. Returns the regions too.
+fn finish(
+    board: RegionBoard,
+    mut workers: Vec<Worker>,
+    mut passes: Vec<Pass>,
+) -> (Finished, Vec<Region>)
+    requires seats { AreOf board workers.items }
+    requires bare { AreBare workers.items }
     requires all { vec_len workers ≡ worker_count board }
-    requires filled { IsFilled (moves_of board) (vec_len workers) (callers_of caller workers.items) }
+    requires filled { IsFilled (moves_of board) (vec_len workers) (callers_of workers.items) }
     requires empty { passes.items ≡ [] }
     requires room { vec_len workers ≤ vec_capacity passes }
-    ensures legal { IsLegal (moves_of board) (worker_count board) (history result) }
-    ensures settled { AllAreSettled (moves_of board) (state_of (history result)) }
+    ensures legal { IsLegal (moves_of board) (worker_count board) (history result.0) }
+    ensures settled { AllAreSettled (moves_of board) (state_of (history result.0)) }
+    ensures count { length result.1.items ≡ region_count (moves_of board) }
+    ensures words { (r : ℕ) → r < region_count (moves_of board) → slice_index_or result.1.items r [] ≡ (if to_fill (moves_of board) r then moved_words board r else original_words board r) }
 {
     while let Some(worker) = workers.pop() {
-        passes.push_reserved(worker.into_seat());
+        passes.push_reserved(worker.into_pass());
     }
-    let Some(finished) = board.finish(passes) else {
+    let Some(ended) = board.finish(passes) else {
         unreachable!();
     };
-    finished
+    ended
 }

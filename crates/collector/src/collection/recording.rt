@@ -2,6 +2,7 @@ ghost use Rattle.std.specs.Prelude.{◌≡◌, ◌≢◌, ◌↔◌, ◌⊎◌, 
 ghost use Rattle.heap_image.specs.Refusals.{IsOfReading};
 ghost use Rattle.image_streams.specs.declared.fault.Fault.TheVariants.{Memory};
 ghost use Rattle.summary.specs.Compaction.{compact};
+ghost use Rattle.scheduler.specs.Schedule.{IsHistory};
 ghost use Rattle.history.specs.Record.{IsRecord};
 ghost use Rattle.collector.specs.Halts.{MayRefuse};
 ghost use Rattle.collector.specs.Collections.{figures_of, AreNoneOrTooMany, IfKept, IfLost};
@@ -9,17 +10,18 @@ ghost use Rattle.collector.specs.Records.{IsLoss, IsOfSchedule};
 ghost use Rattle.collector.specs.Streams.{AreRecorded, IsTextBegun, IsFirstOfBytes, IsTextWritten, MayRefuseRead};
 ghost use Rattle.collector.specs.declared.outcome.Refusal.TheVariants.{Kept, Lost};
 
+use super::collection_desk::CollectionDesk;
 use super::compaction::Compaction;
 use super::read_whole;
 use crate::gate::Gate;
 use crate::outcome::{Figures, Outcome, Refusal};
 use crate::workers::Workers;
 use crate::workers::start_line::StartLine;
-use claim_board::Recorder;
+use claim_board::{Recorder, RegionBoard};
 use heap_image::{Fault, Image, Intake, Outlet, give_all, write_image_buffered};
 use history::{check, checked_histories_are_records, write_schedule};
-use scheduler::Schedule;
-use std::alloc::Global;
+use scheduler::{Book, CallFault, Schedule};
+use std::alloc::{AllocError, Global};
 use std::sync::Wait;
 use std::thread::Threads;
 use summary::Plan;
@@ -90,9 +92,11 @@ pub fn record_stream<
 /// Compacts an image as [`collect`](crate::collect) does, but under one lock, and returns the schedule of all the
 /// workers' calls and copies. Each call and copy allocates its line. The workers begin together if each has a thread.
 ///
-/// Returns `Kept` as `collect` does. Returns `Lost` once a worker has begun: with the faults of `collect`, with fault
-/// 11 if memory for a line runs out, and with fault 14 if the schedule isn't one that moves all regions. Fault 14 names
-/// the first line at fault, or the line after the last if some region isn't settled.
+/// Returns `Kept` as `collect` does. Returns `Lost` once a worker has begun: with fault 16 if the gate refused a region,
+/// with fault 11 if memory for a line ran out, and with fault 14 if the schedule isn't one that moves all regions. The
+/// last two come once the collection is done: it doesn't need its schedule. No contract sees a list under a lock, so none
+/// says that fault 14 never comes; tests do. It names the first line at fault, or the line after the last if some region
+/// isn't settled.
 pub fn record<G: Gate + Sync, T: Threads + Sync, W: Wait + Sync>(
     alloc: Global,
     image: Image,
@@ -116,25 +120,60 @@ pub fn record<G: Gate + Sync, T: Threads + Sync, W: Wait + Sync>(
     };
     let mut compaction = Compaction::<Recorder>::prepare(alloc, image, workers, &many)?;
     compaction.work(&StartLine::awaiting(workers), gate, threads, wait)?;
-    let (outcome, survey, recorder) = compaction.shared.clean_up(&many)?;
-    let schedule = whole_schedule(alloc, recorder, survey.plan(), workers)?;
-    Ok((outcome, schedule))
+    compaction.fill_left(true, gate, wait)?;
+    let ended = compaction.finish(&many);
+    let schedule = whole_schedule(alloc, ended.record, ended.survey.plan(), workers)?;
+    Ok((ended.outcome, schedule))
 }
 
-/// The recorder's schedule, if it records a whole collection of the plan's image. Otherwise fault 14 names the first
-/// line at fault, or the line after the last if some region isn't settled. Returns fault 11 if memory runs out.
+impl CollectionDesk for Recorder {
+    ghost use Rattle.scheduler.specs.Schedule.{IsHistory};
+
+    type Equipment = Book;
+
+    type Record = Recorded;
+
+    ghost recorded = { λ r. IsHistory r.schedule };
+
+    fn equip(alloc: Global, plan: &Plan, workers: u32) -> Result<Book, AllocError> {
+        Book::new(alloc, plan, workers)
+    }
+
+    fn of(board: RegionBoard, book: Book) -> Recorder {
+        Recorder::new(board, book)
+    }
+
+    fn into_parts(self) -> (RegionBoard, Recorded) {
+        let (board, schedule, missing) = self.into_parts();
+        (board, Recorded { schedule, missing })
+    }
+}
+
+/// The calls that were recorded, and why those after them are missing.
+#[derive(Drop)]
+pub(crate) struct Recorded {
+    schedule: Schedule,
+    missing: Option<CallFault>,
+}
+
+/// The schedule, if it records a whole collection of the plan's image. Otherwise fault 14 names the first line at fault, or
+/// the line after the last if some region isn't settled. Returns fault 11 if memory runs out or ran out before.
 fn whole_schedule(
     alloc: Global,
-    recorder: Recorder,
+    recorded: Recorded,
     plan: &Plan,
     workers: u32,
 ) -> Result<Schedule, Fault>
+    requires { IsHistory recorded.schedule }
     ensures schedule { IfOk result (IsRecord plan.now workers) }
     ensures fault { IfErr result (λ fault. (fault ≡ Memory) ⊎ IsOfSchedule fault) }
 {
     checked_histories_are_records();
     planned_image_is_valid(plan);
-    let schedule = recorder.into_schedule();
+    let Recorded { schedule, missing } = recorded;
+    if missing == Some(CallFault::Memory) {
+        return Err(Fault::Memory);
+    }
     if schedule.workers() != workers {
         return Err(Fault::Schedule(1));
     }

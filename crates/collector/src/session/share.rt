@@ -1,21 +1,18 @@
-ghost use Rattle.std.specs.Prelude.{◌≡◌, ◌<◌, ◌⊎◌, true, length, vec_len, IfOk, IfErr, IfSome};
+ghost use Rattle.std.specs.Prelude.{◌≡◌, ◌<◌, length, vec_len, IfOk, IfErr, IfSome};
 ghost use Rattle.std.specs.Arc.{arc_value};
 ghost use Rattle.object_heap.specs.HeapImage.{region_count};
 ghost use Rattle.heap_image.specs.ImageText.{with_tail};
 ghost use Rattle.summary.specs.Compaction.{compact};
-ghost use Rattle.claim_board.specs.Boards.{identity, board_of};
-ghost use Rattle.fill.specs.FillFaults.{IsOverwritten};
+ghost use Rattle.claim_board.specs.Boards.{board_of};
+ghost use Rattle.claim_board.specs.RegionBoards.{identity};
 ghost use Rattle.collector.specs.Collections.{figures_of};
-ghost use Rattle.collector.specs.Ends.{MayHalt, may_end};
+ghost use Rattle.collector.specs.Rest.{Rests};
 
 use super::Session;
 use super::dealing::image_of_last;
-use super::halt::Halt;
 use super::progress::Progress;
 use crate::outcome::Outcome;
-use crate::workers::end::End;
 use crate::workers::worker::Worker;
-use claim_board::Pass;
 use crossbeam_utils::Backoff;
 use heap_image::{Fault, Image};
 use std::alloc::Global;
@@ -26,24 +23,23 @@ use std::sync::atomic::Ordering;
 #[derive(Drop)]
 pub struct Share {
     pub(crate) session: Arc<Session, Global>,
-    worker: Worker<Pass>,
+    worker: Worker,
     number: u32,
-    ghost seat: { board_of worker.seat ≡ identity (arc_value session).shared.desk },
+    ghost seat: { board_of worker.seat.pass ≡ identity (arc_value session).shared.desk },
+    ghost rest: { Rests worker.seat.pass },
     ghost numbered: { number < vec_len (arc_value session).shared.thieves },
-    ghost end: { may_end worker.result ≡ true },
 }
 
 impl Share {
     ghost use Rattle.collector.specs.Sessions.{image_of};
 
     /// The part of this worker, which has not begun.
-    #[tactic(auto, unfolding(crate::specs::Ends::may_end))]
-    pub(crate) fn new(session: Arc<Session, Global>, mut worker: Worker<Pass>, number: u32) -> Share
-        requires seat { board_of worker.seat ≡ identity (arc_value session).shared.desk }
+    pub(crate) fn new(session: Arc<Session, Global>, worker: Worker, number: u32) -> Share
+        requires seat { board_of worker.seat.pass ≡ identity (arc_value session).shared.desk }
+        requires rest { Rests worker.seat.pass }
         requires numbered { number < vec_len (arc_value session).shared.thieves }
         ensures { result.session ≡ session }
     {
-        worker.result = Err(End::Stopped(None));
         Share {
             session,
             worker,
@@ -51,64 +47,47 @@ impl Share {
         }
     }
 
-    /// Fills regions that are ready, at most `turns`. Returns at once if none is ready. Allocates nothing and never waits.
-    ///
-    /// Returns `Failed` with fault 15 if a cell contradicts the order of work, in each later call too, and
-    /// `Stopped` once another share has met a fault.
-    #[tactic(auto, using(crate::proofs::Lemmas::Ends::flagged))]
-    pub fn work(&mut self, turns: u64) -> Result<Progress, Halt>
-        ensures image { image_of self.new ≡ image_of self.old }
-        ensures halt { IfErr result MayHalt }
+    /// Fills regions that are ready, at most `turns`. Returns at once if none is ready. Allocates nothing, never waits, and
+    /// can't fail.
+    pub fn work(&mut self, turns: u64) -> Progress
+        ensures { image_of self.new ≡ image_of self.old }
     {
-        if let Some(fault) = self.fault() {
-            return Err(Halt::Failed(fault));
-        }
         let session: &Session = &self.session;
         session.work(self.number, &mut self.worker, turns)
     }
 
-    /// Fills regions until all are settled, and spins while none is ready. Allocates nothing. Fails as
-    /// [`work`](Share::work).
-    pub fn work_all(&mut self) -> Result<(), Halt>
-        ensures image { image_of self.new ≡ image_of self.old }
-        ensures halt { IfErr result MayHalt }
+    /// Fills regions until all are settled, and spins while none is ready. Allocates nothing, and can't fail.
+    pub fn work_all(&mut self)
+        ensures { image_of self.new ≡ image_of self.old }
     {
         let backoff = Backoff::new();
         for _ in 0..u64::MAX {
-            if self.work(u64::MAX)? == Progress::Settled {
+            if self.work(u64::MAX) == Progress::Settled {
                 break;
             }
             backoff.spin();
         }
-        Ok(())
     }
 
     /// Ends the session, and returns the compaction and its figures. `others` are the shares of all other workers. Fills
     /// what is left to fill, and cleans up, in the caller's thread.
     ///
-    /// Fails with fault 12 if these aren't all shares of one session, and with fault 15 if some worker has met it, or a
-    /// region has not moved. The image is lost then.
+    /// Fails with fault 12 if these aren't all shares of one session. The image is lost then.
     pub fn end(mut self, others: Vec<Share>) -> Result<Outcome, Fault>
         ensures image { IfOk result (λ outcome. outcome.image ≡ compact (image_of self)) }
         ensures figures { IfOk result (λ outcome. outcome.figures ≡ figures_of (image_of self)) }
-        ensures fault { IfErr result (λ fault. (fault ≡ Fault.Workers) ⊎ IsOverwritten fault) }
+        ensures fault { IfErr result (λ fault. fault ≡ Fault.Workers) }
     {
         if self.session.shared.thieves.len() != others.len() + 1 {
             return Err(Fault::Workers);
         }
-        if let Some(fault) = first_fault(others.as_slice()) {
-            return Err(fault);
-        }
-        if let Some(fault) = self.fault() {
-            return Err(fault);
-        }
-        self.fill_rest()?;
+        self.fill_rest();
         drop(others);
         self.close()
     }
 
-    /// Returns the image of a session in which no region has been written, by its last share. `None` if there are other
-    /// shares, or a region was written.
+    /// Returns the image of a session in which no region was claimed, by its last share. `None` if there are other shares, or
+    /// a region was claimed.
     pub fn give_back(self) -> Option<Image>
         ensures { IfSome result (λ image. image ≡ image_of self) }
     {
@@ -145,45 +124,31 @@ impl Share {
             && self.session.shared.thieves.len() == shares
     }
 
-    /// Fills what is left to fill, once no other share works. Returns fault 15 if a cell contradicts the order of work.
-    fn fill_rest(&mut self) -> Result<(), Fault>
-        ensures image { image_of self.new ≡ image_of self.old }
-        ensures fault { IfErr result IsOverwritten }
+    /// Fills what is left to fill, once no other share works.
+    fn fill_rest(&mut self)
+        ensures { image_of self.new ≡ image_of self.old }
     {
         let session: &Session = &self.session;
-        session.fill_rest(self.number, &mut self.worker.seat)
+        session.fill_rest(self.number, &mut self.worker.seat);
     }
 
     /// Ends the session whose last share this is.
     fn close(self) -> Result<Outcome, Fault>
         ensures image { IfOk result (λ outcome. outcome.image ≡ compact (image_of self)) }
         ensures figures { IfOk result (λ outcome. outcome.figures ≡ figures_of (image_of self)) }
-        ensures fault { IfErr result (λ fault. (fault ≡ Fault.Workers) ⊎ IsOverwritten fault) }
+        ensures fault { IfErr result (λ fault. fault ≡ Fault.Workers) }
     {
-        match Arc::try_unwrap(self.session) {
-            Ok(session) => session.clean_up(),
-            Err(_) => Err(Fault::Workers),
+        let Share {
+            session,
+            worker,
+            ..
+        } = self;
+        let Ok(session) = Arc::try_unwrap(session) else {
+            return Err(Fault::Workers);
+        };
+        match session.finish(worker.into_pass()) {
+            Some(outcome) => Ok(outcome),
+            None => Err(Fault::Workers),
         }
     }
-
-    /// The fault that this share has met itself, if any.
-    #[tactic(auto, using(crate::proofs::Lemmas::Ends::met_so))]
-    fn fault(&self) -> Option<Fault>
-        ensures { IfSome result IsOverwritten }
-    {
-        self.worker.fault()
-    }
-}
-
-/// The fault of the first of these shares that met one.
-fn first_fault(shares: &[Share]) -> Option<Fault>
-    ensures { IfSome result IsOverwritten }
-{
-    for share in shares {
-        let met = share.fault();
-        if met.is_some() {
-            return met;
-        }
-    }
-    None
 }

@@ -1,15 +1,15 @@
 ghost use Rattle.std.specs.Prelude.{◌≡◌};
 ghost use Rattle.collector.specs.declared.workers.end.End.TheVariants.{Failed};
 
-use super::held_ticket::HeldTicket;
+use super::held_region::HeldRegion;
 use heap_image::Fault;
 
 /// Why a worker ends before all regions to fill are settled.
 #[derive(Drop)]
 pub(crate) enum End {
-    /// Another worker has met a fault. If it has a ticket, its region was claimed and admitted, and nothing of it is written.
-    Stopped(Option<HeldTicket>),
-    /// This worker has met a fault.
+    /// The gate has refused another worker. If this one has a region, it was claimed and admitted, and nothing of it is written.
+    Stopped(Option<HeldRegion>),
+    /// The gate has refused this worker.
     Failed(Fault),
 }
 

@@ -1,46 +1,93 @@
-//! The workers of a collection before they begin, and their queues.
+//! The queues of the workers, and the workers before they begin.
 ghost use Rattle.std.specs.Prelude.{◌≡◌, ◌<◌, ◌≤◌, [], All, map, vec_len, IfOk, None, Err};
 ghost use Rattle.std.specs.Vec.{vec_capacity};
 ghost use Rattle.collector.specs.declared.workers.end.End.TheVariants.{Stopped};
 
 use super::end::End;
 use super::worker::Worker;
+use claim_board::{Pass, Seat};
 use ready_queues::{Ready, Thief};
 use std::alloc::{AllocError, Global};
 use summary::Plan;
 use summary::laws::plans::planned_image_is_valid;
 use summary::laws::region_data::regions_to_fill;
 
-/// A worker for each seat, a handle to each worker's queue, and an empty list with room for the seats, which are collected
-/// at the end. Deals the regions to fill that have no pending readers to the workers in turn.
-///
-/// Each queue has room for all regions to fill. Fails if memory runs out.
-pub(crate) fn workers_of<S: Drop>(
-    alloc: Global,
-    plan: &Plan,
-    seats: Vec<S>,
-) -> Result<(Vec<Worker<S>>, Vec<Thief>, Vec<S>), AllocError>
-    ensures seats { IfOk result (λ made. map (λ w. w.seat) made.0.items ≡ seats.items) }
-    ensures idle { IfOk result (λ made. All (λ w. w.result ≡ Err (Stopped None)) made.0.items) }
-    ensures handles { IfOk result (λ made. vec_len made.1 ≡ vec_len made.0) }
-    ensures empty { IfOk result (λ made. made.2.items ≡ []) }
-    ensures room { IfOk result (λ made. vec_len made.0 ≤ vec_capacity made.2) }
-{
-    let count = seats.len();
-    let mut workers = Vec::with_capacity(alloc, count)?;
-    let mut thieves = Vec::with_capacity(alloc, count)?;
-    let emptied = Vec::with_capacity(alloc, count)?;
-    for seat in seats {
-        let ready = first_regions(alloc, plan, workers.len(), count)?;
-        thieves.push(ready.thief()?)?;
-        workers.push(Worker {
-            seat,
+/// What the workers need besides a pass each.
+#[derive(Drop)]
+pub(crate) struct Queues {
+    /// One for each worker.
+    pub(crate) ready: Vec<Ready>,
+    /// A handle to each worker's queue.
+    pub(crate) thieves: Vec<Thief>,
+    /// Empty, with room for all workers.
+    room: Vec<Worker>,
+    /// Empty, with room for the passes of all workers, which are collected at the end.
+    pub(crate) passes: Vec<Pass>,
+    ghost handles: { vec_len thieves ≡ vec_len ready },
+    ghost empty: { (room.items ≡ []) × (passes.items ≡ []) },
+    ghost roomy: { (vec_len ready ≤ vec_capacity room) × (vec_len ready ≤ vec_capacity passes) },
+}
+
+impl Queues {
+    /// Makes the queues of this number of workers, and deals the regions to fill that have no pending readers to them in turn.
+    ///
+    /// Each queue has room for all regions to fill. Fails if memory runs out.
+    pub(crate) fn new(alloc: Global, plan: &Plan, workers: u32) -> Result<Queues, AllocError>
+        ensures { IfOk result (λ made. vec_len made.ready ≡ workers) }
+    {
+        let count = workers as usize;
+        let mut ready = Vec::with_capacity(alloc, count)?;
+        let mut thieves = Vec::with_capacity(alloc, count)?;
+        let room = Vec::with_capacity(alloc, count)?;
+        let passes = Vec::with_capacity(alloc, count)?;
+        for number in 0..count {
+            let queue = first_regions(alloc, plan, number, count)?;
+            thieves.push(queue.thief()?)?;
+            ready.push(queue)?;
+        }
+        Ok(Queues {
             ready,
-            lowest: 0,
-            result: Err(End::Stopped(None)),
-        })?;
+            thieves,
+            room,
+            passes,
+        })
     }
-    Ok((workers, thieves, emptied))
+
+    /// A worker for each pass, a handle to each worker's queue, and an empty list with room for the passes.
+    pub(crate) fn man(self, mut passes: Vec<Pass>) -> (Vec<Worker>, Vec<Thief>, Vec<Pass>)
+        requires all { vec_len passes ≡ vec_len self.ready }
+        requires few { vec_len passes ≤ 64 }
+        ensures passes { map (λ w. w.seat.pass) result.0.items ≡ passes.items }
+        ensures idle { All (λ w. w.result ≡ Err (Stopped None)) result.0.items }
+        ensures handles { result.1 ≡ self.thieves }
+        ensures empty { result.2.items ≡ [] }
+        ensures room { vec_len passes ≤ vec_capacity result.2 }
+    {
+        let Queues {
+            ready: mut queues,
+            thieves,
+            room: mut workers,
+            passes: emptied,
+        } = self;
+        queues.reverse();
+        passes.reverse();
+        while let Some(pass) = passes.pop() {
+            let Some(ready) = queues.pop() else {
+                unreachable!();
+            };
+            let seat = Seat {
+                pass,
+                number: workers.len() as u32,
+            };
+            workers.push_reserved(Worker {
+                seat,
+                ready,
+                lowest: 0,
+                result: Err(End::Stopped(None)),
+            });
+        }
+        (workers, thieves, emptied)
+    }
 }
 
 /// The queue with which worker `number` begins: of the regions to fill that have no pending readers, counted from 0,

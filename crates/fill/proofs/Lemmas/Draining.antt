@@ -36,12 +36,12 @@ module _ (d s : ℕ) (table image : Bool) (is : table ≡ (not (d == s) && image
   unread_above l e = false_from_ne_true image (λ h.
       false≢true (sym e ∙ is ∙ and_from (not (d == s)) image (not_from_false (d == s) (ne_eqb d s (λ f. let no : ⊥ = omega arith in no))) h))
 
--- What the image's table of moves says about region d.
-module _ (image : HeapImage) (valid : IsValid image) (law : (d s : ℕ) → reads (image_table image) d s ≡ (not (d == s) && image_reads image d s)) (plan : HeapImage) (same : plan ≡ image) (d r : ℕ) (here : r ≡ d) where
-  same_reads : (s : ℕ) → reads (image_table image) d s ≡ reads (image_table plan) r s
-  same_reads s = sym (λ i. reads (image_table (same i)) (here i) s)
+-- What a table says about region r if it is the image's and r is d.
+module _ (image : HeapImage) (valid : IsValid image) (law : (d s : ℕ) → reads (image_table image) d s ≡ (not (d == s) && image_reads image d s)) (table : MoveTable) (same : table ≡ image_table image) (d r : ℕ) (here : r ≡ d) where
+  same_reads : (s : ℕ) → reads (image_table image) d s ≡ reads table r s
+  same_reads s = sym (λ i. reads (same i) (here i) s)
 
-  pub opened_source : PlanLaws → (s : ℕ) → reads (image_table plan) r s ≡ true → (reads (image_table image) d s ≡ true) × (image_reads image d s ≡ true) × (d < s)
+  pub opened_source : PlanLaws → (s : ℕ) → reads table r s ≡ true → (reads (image_table image) d s ≡ true) × (image_reads image d s ≡ true) × (d < s)
   opened_source plans s read =
       let here' : reads (image_table image) d s ≡ true = same_reads s ∙ read in
       let both = other_read d s (reads (image_table image) d s) (image_reads image d s) (law d s) here' in
@@ -49,10 +49,10 @@ module _ (image : HeapImage) (valid : IsValid image) (law : (d s : ℕ) → read
       let apart : d ≢ s = both.1 in
       (here', both.0, omega arith)
 
-  pub skipped_sources : (next s : ℕ) → ((t : ℕ) → next ≤ t → t < s → reads (image_table plan) r t ≡ false) → (t : ℕ) → next ≤ t → t < s → reads (image_table image) d t ≡ false
+  pub skipped_sources : (next s : ℕ) → ((t : ℕ) → next ≤ t → t < s → reads table r t ≡ false) → (t : ℕ) → next ≤ t → t < s → reads (image_table image) d t ≡ false
   skipped_sources next s h t l k = same_reads t ∙ h t l k
 
-  pub last_sources_past : (next : ℕ) → ((t : ℕ) → next ≤ t → reads (image_table plan) r t ≡ false) → (t : ℕ) → next ≤ t → reads (image_table image) d t ≡ false
+  pub last_sources_past : (next : ℕ) → ((t : ℕ) → next ≤ t → reads table r t ≡ false) → (t : ℕ) → next ≤ t → reads (image_table image) d t ≡ false
   last_sources_past next h t l = same_reads t ∙ h t l
 
 module _ (m : MoveTable) (d : ℕ) where
@@ -105,45 +105,45 @@ module _ {F : Type 0} (step : F → ℕ → F → Type 0) where
       subst (λ (xs : List ℕ). FoldsTo step f xs h) (sym (last_append drains (source_drain s NotLast ∷ []) ∙ append-nil (last_sources drains)))
       (subst (FoldsTo step f (last_sources drains)) t before)
 
-module _ {F : Type 0} (step : F → ℕ → F → Type 0) (tells : Type 0) (m : MoveTable) (d : ℕ) where
+module _ {F : Type 0} (step : F → ℕ → F → Type 0) (m : MoveTable) (d : ℕ) where
   -- no source below next
-  pub undrained : (next : ℕ) (old new : Caller) (f : F) → other_sources_below m d next ≡ [] → (tells → new ≡ old) → HasDrained step tells m d next old new f f
+  pub undrained : (next : ℕ) (old new : Caller) (f : F) → other_sources_below m d next ≡ [] → new ≡ old → HasDrained step m d next old new f f
   undrained next old new f none same =
       record {
         drains = [];
         each = sym none;
         reported = refl;
-        gains = λ t. record {
-          board = ap (λ c. c.board) (same t);
-          worker = ap (λ c. c.worker) (same t);
-          seen = ([], ap (λ c. c.seen) (same t) ∙ sym (append-nil old.seen));
-          mine = ap (λ c. c.mine) (same t) ∙ sym (append-nil old.mine);
+        gains = record {
+          board = ap (λ c. c.board) same;
+          worker = ap (λ c. c.worker) same;
+          seen = ([], ap (λ c. c.seen) same ∙ sym (append-nil old.seen));
+          mine = ap (λ c. c.mine) same ∙ sym (append-nil old.mine);
         };
       }
 
-  pub drained_more : (next s : ℕ) (answer : Drained) (old mid new : Caller) (f g h : F) → HasDrained step tells m d next old mid f g → next ≤ s → ((t : ℕ) → next ≤ t → t < s → reads m d t ≡ false) → reads m d s ≡ true
-      → ReportsLast step s answer g h → (tells → Gains mid new (Drain d s) (reply_of answer)) → HasDrained step tells m d (s + 1) old new f h
+  pub drained_more : (next s : ℕ) (answer : Drained) (old mid new : Caller) (f g h : F) → HasDrained step m d next old mid f g → next ≤ s → ((t : ℕ) → next ≤ t → t < s → reads m d t ≡ false) → reads m d s ≡ true
+      → ReportsLast step s answer g h → Gains mid new (Drain d s) (reply_of answer) → HasDrained step m d (s + 1) old new f h
   drained_more next s answer old mid new f g h before l unread read reported gains =
       record {
         drains = before.drains ++ source_drain s answer ∷ [];
         each = map-append (λ x. x.source) before.drains (source_drain s answer ∷ []) ∙ ap (λ (xs : List ℕ). xs ++ s ∷ []) (before.each ∙ sym (sources_skip m d next s l unread)) ∙ sym (sources_more m d s read);
         reported = reported_more step before.drains s answer f g h before.reported reported;
-        gains = λ t. gains_more old mid new d s answer before.drains (before.gains t) (gains t);
+        gains = gains_more old mid new d s answer before.drains before.gains gains;
       }
 
   -- no source from next on
-  pub drained_all : (next all : ℕ) (old new : Caller) (f g : F) → HasDrained step tells m d next old new f g → next ≤ all → ((t : ℕ) → next ≤ t → reads m d t ≡ false) → HasDrained step tells m d all old new f g
+  pub drained_all : (next all : ℕ) (old new : Caller) (f g : F) → HasDrained step m d next old new f g → next ≤ all → ((t : ℕ) → next ≤ t → reads m d t ≡ false) → HasDrained step m d all old new f g
   drained_all next all old new f g before l unread =
       record { drains = before.drains; each = before.each ∙ sym (sources_skip m d next all l (λ t a b. unread t a)); reported = before.reported; gains = before.gains }
 
-  pub filled_all : (old mid new : Caller) (f g : F) → HasDrained step tells m d (region_count m) old mid f g → (tells → Gains mid new (Complete d) Done) → HasFilled step tells m d old new f g
+  pub filled_all : (old mid new : Caller) (f g : F) → HasDrained step m d (region_count m) old mid f g → Gains mid new (Complete d) Done → HasFilled step m d old new f g
   filled_all old mid new f g h last =
       let call : ℕ → List Entry = λ w. entry w (Complete d) Done ∷ [] in
       record {
         drains = h.drains;
         each = h.each;
         reported = h.reported;
-        gains = λ t. let b = h.gains t in let a = last t in record {
+        gains = let b = h.gains in let a = last in record {
           board = a.board ∙ b.board;
           worker = a.worker ∙ b.worker;
           seen = seen_more old.seen mid.seen new.seen (entry mid.worker (Complete d) Done) b.seen a.seen;
@@ -152,10 +152,10 @@ module _ {F : Type 0} (step : F → ℕ → F → Type 0) (tells : Type 0) (m : 
       }
 
 -- the same for the image's table, regions and completion, and for region d
-pub filled_here : {F : Type 0} (step : F → ℕ → F → Type 0) (tells : Type 0) (image guide : HeapImage) → guide ≡ image → region_count (image_table image) ≡ heap_regions image → (d r q : ℕ) → r ≡ d → q ≡ d → (old mid new : Caller) (f g : F)
-    → HasDrained step tells (image_table guide) r (heap_regions guide) old mid f g → (tells → Gains mid new (Complete q) Done) → HasFilled step tells (image_table image) d old new f g
-filled_here step tells image guide same count d r q here there old mid new f g h last =
-    let one = subst (λ (p : HeapImage). HasDrained step tells (image_table p) r (heap_regions p) old mid f g) same h in
-    let two = subst (λ (n : ℕ). HasDrained step tells (image_table image) r n old mid f g) (sym count) one in
-    let three = subst (λ (n : ℕ). HasDrained step tells (image_table image) n (region_count (image_table image)) old mid f g) here two in
-    filled_all step tells (image_table image) d old mid new f g three (λ t. subst (λ (n : ℕ). Gains mid new (Complete n) Done) there (last t))
+pub filled_here : {F : Type 0} (step : F → ℕ → F → Type 0) (image guide : HeapImage) → guide ≡ image → region_count (image_table image) ≡ heap_regions image → (d r q : ℕ) → r ≡ d → q ≡ d → (old mid new : Caller) (f g : F)
+    → HasDrained step (image_table guide) r (heap_regions guide) old mid f g → Gains mid new (Complete q) Done → HasFilled step (image_table image) d old new f g
+filled_here step image guide same count d r q here there old mid new f g h last =
+    let one = subst (λ (p : HeapImage). HasDrained step (image_table p) r (heap_regions p) old mid f g) same h in
+    let two = subst (λ (n : ℕ). HasDrained step (image_table image) r n old mid f g) (sym count) one in
+    let three = subst (λ (n : ℕ). HasDrained step (image_table image) n (region_count (image_table image)) old mid f g) here two in
+    filled_all step (image_table image) d old mid new f g three (subst (λ (n : ℕ). Gains mid new (Complete n) Done) there last)

@@ -1,5 +1,5 @@
 -- Fillers, as they are written.
-use Rattle.std.proofs.Common.{◌≡◌, ℕ, ◌+◌, ◌-◌, ◌*◌, ◌/◌, ◌%◌, ◌^◌, ◌≤◌, ◌<◌, inl, inr, mul_assoc, mul_comm, true, false, ◌||◌, List, length, replicate, sym, ◌∙◌, ap, subst, arith, eqb}
+use Rattle.std.proofs.Common.{◌≡◌, ℕ, ◌+◌, ◌-◌, ◌*◌, ◌/◌, ◌%◌, ◌^◌, ◌≤◌, ◌<◌, inl, inr, mul_assoc, mul_comm, true, false, List, length, replicate, sym, ◌∙◌, ap, subst, arith, eqb}
 use Rattle.std.proofs.lemmas.Bool.{cases_lt, cond-true, cond-false, or_from, ne_eqb}
 use Rattle.std.proofs.lemmas.Nat.{mul-le, pow-add}
 use Rattle.std.proofs.lemmas.List.{get_or-replicate, length-replicate}

@@ -8,7 +8,7 @@ use Rattle.std.proofs.lemmas.List.{ext_get_or, get_or-set_same, get_or-set_other
 use Rattle.std.proofs.lemmas.List.Folds.{list_any-append, list_any_at, Any-from_list_any}
 use Rattle.std.proofs.lemmas.List.FromFn.{get_or-map-range_with_len, length-map-range_with_len, get_or-range_with_len, length-range_with_len}
 use Rattle.object_heap.specs.Layout.{references_in, reference_in}
-use Rattle.object_heap.specs.HeapImage.{HeapImage, HasLiveList, heap_words, word_at, size_at, references_at, is_null_or_live}
+use Rattle.object_heap.specs.HeapImage.{HeapImage, HasLiveList, word_at, references_at, is_null_or_live}
 use Rattle.summary.specs.NewAddresses.{new_address}
 use Rattle.summary.specs.Compaction.{moved_word, redirected_word, is_deferred}
 use Rattle.summary.specs.RegionData.{deferred}

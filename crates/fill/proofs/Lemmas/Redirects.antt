@@ -3,7 +3,7 @@ use Rattle.std.proofs.Common.{◌≡◌, ℕ, ◌+◌, ◌-◌, ◌*◌, ◌/◌
 use Rattle.std.proofs.lemmas.Bool.{cases_lt, cases_order, cond-true, cond-false, and_from, and_left, and_right, lt-ltb, le-ltb, le-leb, lt-leb, eq-eqb, ne_eqb, not_from_true, not_from_false}
 use Rattle.std.specs.Prelude.{not, Some, None, Option}
 use Rattle.std.specs.List.{list_any}
-use Rattle.object_heap.specs.HeapImage.{HeapImage, HasLiveList, heap_words, region_words, word_at, size_at, references_at, end_of, is_live_word, live_words, reference_at}
+use Rattle.object_heap.specs.HeapImage.{HeapImage, HasLiveList, heap_words, region_words, word_at, size_at, references_at, end_of, is_live_word, live_words}
 use Rattle.summary.specs.NewAddresses.{prefix_end, new_address, new_top}
 use Rattle.summary.specs.WordMoves.{slid, origin}
 use Rattle.summary.specs.Compaction.{moved_word, redirected_word, is_reference_of, is_deferred}

@@ -1,17 +1,17 @@
-ghost use Rattle.std.specs.Prelude.{◌≡◌, ℕ, ◌+◌, ◌<◌, ◌≤◌, false};
-ghost use Rattle.object_heap.specs.HeapImage.{region_count, start_of};
+ghost use Rattle.std.specs.Prelude.{◌≡◌, ℕ, ◌+◌, ◌-◌, ◌^◌, ◌<◌, ◌≤◌, false};
+ghost use Rattle.object_heap.specs.HeapImage.{region_count, start_of, block_of};
 ghost use Rattle.summary.specs.NewAddresses.{prefix_end};
 ghost use Rattle.summary.specs.WordMoves.{reads};
 ghost use Rattle.summary.specs.Compaction.{moved_word};
 ghost use Rattle.fill.specs.WordBlocks.{IsSplitAt, Shows};
 ghost use Rattle.fill.specs.CopiedWords.{copied_word, reaches};
 ghost use Rattle.fill.specs.Objects.{IsBetween};
-ghost use Rattle.fill.specs.Targets.{Becomes, IsBlockOf, IsUnwritten, IsCopied, IsMoved};
-ghost use Rattle.fill.specs.SourceRegions.{IsNextOtherSource, IsReadOf};
+ghost use Rattle.fill.specs.WrittenWords.{Becomes, IsBlockOf, IsUnwritten, IsCopied, IsMoved};
+ghost use Rattle.fill.specs.SourceRegions.{IsNextOtherSource};
 
 use super::site::Site;
 use heap_image::header::size;
-use region_cells::{Source, Target};
+use raw_region::Region;
 use summary::laws::plan_laws;
 
 /// Whether a source has words for the target region at `start..limit`: its live words go to `first..after`.
@@ -42,9 +42,9 @@ impl AfterPrefix<'_> {
     }
 
     /// Slides the region's own words down. Returns the address up to which the region is written.
-    pub(crate) fn slide_own(&self, target: &mut Target<'_>) -> u64
-        requires { IsUnwritten self.now.site.guide.now self.now.site.region target.old }
-        ensures { Becomes (IsCopied self.now.site.guide.now self.now.site.region (self.now.site.region + 1) result) target.old target.new }
+    pub(crate) fn slide_own(&self, words: &mut Region) -> u64
+        requires { IsUnwritten self.now.site.guide.now self.now.site.region words.old }
+        ensures { Becomes (IsCopied self.now.site.guide.now self.now.site.region (self.now.site.region + 1) result) words.old words.new }
     {
         plan_laws();
         let guide = self.site.guide;
@@ -59,7 +59,7 @@ impl AfterPrefix<'_> {
             let run = guide.next_run(from, span.end);
             let n = run.end - run.begin;
             let first = (run.begin - span.start) as usize;
-            target.slide(first, (to - span.start) as usize, n as usize);
+            words.slide(first, (to - span.start) as usize, n as usize);
             to += n;
             from = run.end;
         }
@@ -68,16 +68,11 @@ impl AfterPrefix<'_> {
 
     /// Copies the words that come from source `s`. On entry the words from all regions below `s` are copied, and the
     /// region is written up to `to`. Returns the address up to which it is written afterwards.
-    pub(crate) fn copy_source(
-        &self,
-        source: &Source<'_>,
-        s: u32,
-        target: &mut Target<'_>,
-        to: u64,
-    ) -> u64
-        requires source { IsReadOf self.now.site.guide.now s source.now }
-        requires next { (from : ℕ) × IsNextOtherSource self.now.site.guide.now self.now.site.region from s × IsCopied self.now.site.guide.now self.now.site.region from to target.old }
-        ensures { Becomes (IsCopied self.now.site.guide.now self.now.site.region (s + 1) result) target.old target.new }
+    pub(crate) fn copy_source(&self, source: &Region, s: u32, words: &mut Region, to: u64) -> u64
+        requires source { source.now ≡ block_of self.now.site.guide.now s }
+        requires next { (from : ℕ) × IsNextOtherSource self.now.site.guide.now self.now.site.region from s × IsCopied self.now.site.guide.now self.now.site.region from to words.old }
+        ensures more { (to ≤ result) × (result - to < 2 ^ 32) }
+        ensures copied { Becomes (IsCopied self.now.site.guide.now self.now.site.region (s + 1) result) words.old words.new }
     {
         plan_laws();
         let guide = self.site.guide;
@@ -89,7 +84,7 @@ impl AfterPrefix<'_> {
             let run = guide.next_run(from, read.end);
             let n = (run.end - run.begin).min(write.end - to);
             let first = (run.begin - read.start) as usize;
-            source.copy_into(target, first, (to - write.start) as usize, n as usize);
+            words.copy_from((to - write.start) as usize, source, first, n as usize);
             to += n;
             from = run.begin + n;
         }
@@ -98,12 +93,12 @@ impl AfterPrefix<'_> {
 
     /// Redirects the references of the live objects that lie wholly in the region. The words from all regions below
     /// `from` are copied, the region is written up to `to`, and the other regions have no words for it.
-    pub(crate) fn redirect_objects(&self, target: &mut Target<'_>, from: u32, to: u64)
+    pub(crate) fn redirect_objects(&self, words: &mut Region, from: u32, to: u64)
         requires own { self.now.site.region < from }
         requires within { from ≤ region_count self.now.site.guide.now }
         requires last { (t : ℕ) → from ≤ t → t < region_count self.now.site.guide.now → reads self.now.site.guide.now self.now.site.region t ≡ false }
-        requires copied { IsCopied self.now.site.guide.now self.now.site.region from to target.old }
-        ensures { Becomes (IsMoved self.now.site.guide.now self.now.site.region) target.old target.new }
+        requires copied { IsCopied self.now.site.guide.now self.now.site.region from to words.old }
+        ensures { Becomes (IsMoved self.now.site.guide.now self.now.site.region) words.old words.new }
     {
         plan_laws();
         let guide = self.site.guide;
@@ -112,18 +107,18 @@ impl AfterPrefix<'_> {
         let first = guide.first_from(s, self.site.span.start);
         let last = guide.span(from - 1).end;
         if let Some(a) = guide.next_object(first, last) {
-            self.redirect_row(target, guide.new_address(a));
+            self.redirect_row(words, guide.new_address(a));
         }
     }
 
     /// Redirects the references of the live objects that lie wholly in the region. They are adjacent, and the first
     /// begins at `at`.
-    fn redirect_row(&self, target: &mut Target<'_>, at: u64)
+    fn redirect_row(&self, words: &mut Region, at: u64)
         requires low { self.now.site.span.start ≤ at }
         requires between { IsBetween self.now.site.guide.now at }
-        requires target { IsBlockOf self.now.site.guide.now target.old }
-        requires split { IsSplitAt (moved_word self.now.site.guide.now) (copied_word self.now.site.guide.now) self.now.site.span.start target.old.words at }
-        ensures { Becomes (λ w. Shows (moved_word self.now.site.guide.now) self.now.site.span.start w.words) target.old target.new }
+        requires block { IsBlockOf self.now.site.guide.now words.old }
+        requires split { IsSplitAt (moved_word self.now.site.guide.now) (copied_word self.now.site.guide.now) self.now.site.span.start words.old at }
+        ensures { Becomes (λ w. Shows (moved_word self.now.site.guide.now) self.now.site.span.start w) words.old words.new }
     {
         plan_laws();
         let span = self.site.span;
@@ -132,10 +127,10 @@ impl AfterPrefix<'_> {
         let limit = self.site.guide.plan().new_top().min(span.end);
         let mut at = at;
         while at < limit {
-            let header = target.get((at - span.start) as usize);
+            let header = words.get((at - span.start) as usize);
             let next = at + u64::from(size(header));
             if next <= span.end {
-                self.site.redirect_object(target, at);
+                self.site.redirect_object(words, at);
             }
             at = next;
         }

@@ -4,11 +4,11 @@ ghost use Rattle.summary.specs.NewAddresses.{prefix_end};
 ghost use Rattle.summary.specs.Compaction.{moved_word};
 ghost use Rattle.fill.specs.WordBlocks.{IsSplitAt, Shows};
 ghost use Rattle.fill.specs.CopiedWords.{copied_word};
-ghost use Rattle.fill.specs.Targets.{Becomes, IsBlockOf, IsUnwritten, IsMoved};
+ghost use Rattle.fill.specs.WrittenWords.{Becomes, IsBlockOf, IsUnwritten, IsMoved};
 
 use super::site::Site;
 use heap_image::header::{filler, size};
-use region_cells::Target;
+use raw_region::Region;
 use summary::laws::plan_laws;
 
 /// A region that begins in the dense prefix, where each live object keeps its address.
@@ -20,18 +20,18 @@ pub(crate) struct InPrefix<'a> {
 
 impl InPrefix<'_> {
     /// Writes the fillers, and redirects the references in place.
-    pub(crate) fn fill(&self, target: &mut Target<'_>)
-        requires { IsUnwritten self.now.site.guide.now self.now.site.region target.old }
-        ensures { Becomes (IsMoved self.now.site.guide.now self.now.site.region) target.old target.new }
+    pub(crate) fn fill(&self, words: &mut Region)
+        requires { IsUnwritten self.now.site.guide.now self.now.site.region words.old }
+        ensures { Becomes (IsMoved self.now.site.guide.now self.now.site.region) words.old words.new }
     {
         self.site.guide.image_is_valid();
-        self.write_fillers(target);
-        self.redirect_objects(target);
+        self.write_fillers(words);
+        self.redirect_objects(words);
     }
 
-    fn write_fillers(&self, target: &mut Target<'_>)
-        requires { IsUnwritten self.now.site.guide.now self.now.site.region target.old }
-        ensures { Becomes (λ w. Shows (copied_word self.now.site.guide.now) self.now.site.span.start w.words) target.old target.new }
+    fn write_fillers(&self, words: &mut Region)
+        requires { IsUnwritten self.now.site.guide.now self.now.site.region words.old }
+        ensures { Becomes (λ w. Shows (copied_word self.now.site.guide.now) self.now.site.span.start w) words.old words.new }
     {
         plan_laws();
         let span = self.site.span;
@@ -39,21 +39,21 @@ impl InPrefix<'_> {
         let mut at = span.start;
         while at < span.end {
             let run = self.site.guide.next_run(at, span.end);
-            self.write_gap(target, at, run.begin);
+            self.write_gap(words, at, run.begin);
             at = run.end;
         }
     }
 
     /// Writes the filler over the dead words `at..stop`. Writes nothing after `stop`, though the filler may continue in
     /// the next regions.
-    fn write_gap(&self, target: &mut Target<'_>, at: u64, stop: u64)
+    fn write_gap(&self, words: &mut Region, at: u64, stop: u64)
         requires low { self.now.site.span.start ≤ at }
         requires ordered { at ≤ stop }
         requires high { stop ≤ self.now.site.span.end }
         requires dead { (q : ℕ) → at ≤ q → q < stop → is_live_word self.now.site.guide.now q ≡ false }
-        requires target { IsBlockOf self.now.site.guide.now target.old }
-        requires split { IsSplitAt (copied_word self.now.site.guide.now) (word_at self.now.site.guide.now) self.now.site.span.start target.old.words at }
-        ensures { Becomes (λ w. IsSplitAt (copied_word self.now.site.guide.now) (word_at self.now.site.guide.now) self.now.site.span.start w.words stop) target.old target.new }
+        requires block { IsBlockOf self.now.site.guide.now words.old }
+        requires split { IsSplitAt (copied_word self.now.site.guide.now) (word_at self.now.site.guide.now) self.now.site.span.start words.old at }
+        ensures { Becomes (λ w. IsSplitAt (copied_word self.now.site.guide.now) (word_at self.now.site.guide.now) self.now.site.span.start w stop) words.old words.new }
     {
         plan_laws();
         self.site.guide.image_is_valid();
@@ -64,18 +64,18 @@ impl InPrefix<'_> {
         let n = (stop - at) as usize;
         if self.site.guide.may_begin_filler(at) {
             let end = self.site.guide.filler_end(at, stop);
-            target.set(first, filler((end - at) as u32));
-            target.fill(first + 1, n - 1, 0);
+            words.set(first, filler((end - at) as u32));
+            words.fill(first + 1, n - 1, 0);
         } else {
-            target.fill(first, n, 0);
+            words.fill(first, n, 0);
         }
     }
 
     /// Redirects the references of the live objects that lie wholly in the region.
-    fn redirect_objects(&self, target: &mut Target<'_>)
-        requires target { IsBlockOf self.now.site.guide.now target.old }
-        requires copied { Shows (copied_word self.now.site.guide.now) self.now.site.span.start target.old.words }
-        ensures { Becomes (λ w. Shows (moved_word self.now.site.guide.now) self.now.site.span.start w.words) target.old target.new }
+    fn redirect_objects(&self, words: &mut Region)
+        requires block { IsBlockOf self.now.site.guide.now words.old }
+        requires copied { Shows (copied_word self.now.site.guide.now) self.now.site.span.start words.old }
+        ensures { Becomes (λ w. Shows (moved_word self.now.site.guide.now) self.now.site.span.start w) words.old words.new }
     {
         plan_laws();
         let span = self.site.span;
@@ -83,12 +83,12 @@ impl InPrefix<'_> {
         self.site.guide.image_is_own();
         let mut from = span.start;
         while let Some(a) = self.site.guide.next_object(from, span.end) {
-            let header = target.get((a - span.start) as usize);
-            let words = u64::from(size(header));
-            if a + words <= span.end {
-                self.site.redirect_object(target, a);
+            let header = words.get((a - span.start) as usize);
+            let length = u64::from(size(header));
+            if a + length <= span.end {
+                self.site.redirect_object(words, a);
             }
-            from = a + words;
+            from = a + length;
         }
     }
 }

@@ -6,14 +6,14 @@ ghost use Rattle.summary.specs.Compaction.{moved_word};
 ghost use Rattle.fill.specs.WordBlocks.{IsSplitAt};
 ghost use Rattle.fill.specs.CopiedWords.{copied_word};
 ghost use Rattle.fill.specs.Objects.{IsMovedTo, IsEarlyAt};
-ghost use Rattle.fill.specs.Targets.{Becomes, IsBlockOf};
+ghost use Rattle.fill.specs.WrittenWords.{Becomes, IsBlockOf};
 
 use super::after_prefix::AfterPrefix;
 use super::guide::Guide;
 use super::in_prefix::InPrefix;
 use super::span::Span;
 use heap_image::header::references;
-use region_cells::Target;
+use raw_region::Region;
 use summary::laws::plan_laws;
 use summary::laws::region_data::regions_to_fill;
 
@@ -60,19 +60,19 @@ impl<'a> Site<'a> {
     }
 
     /// Redirects the references of the live object whose new address is `at`. Its new words lie wholly in the region.
-    pub(crate) fn redirect_object(&self, target: &mut Target<'_>, at: u64)
+    pub(crate) fn redirect_object(&self, words: &mut Region, at: u64)
         requires object { IsEarlyAt self.now.guide.now at self.now.span.end }
         requires low { self.now.span.start ≤ at }
-        requires target { IsBlockOf self.now.guide.now target.old }
-        requires split { IsSplitAt (moved_word self.now.guide.now) (copied_word self.now.guide.now) self.now.span.start target.old.words at }
+        requires block { IsBlockOf self.now.guide.now words.old }
+        requires split { IsSplitAt (moved_word self.now.guide.now) (copied_word self.now.guide.now) self.now.span.start words.old at }
         ensures { Becomes (λ w. (a : ℕ) → IsMovedTo self.now.guide.now at a → IsSplitAt (moved_word self.now.guide.now) (copied_word self.now.guide.now)
-            self.now.span.start w.words (at + size_at self.now.guide.now a)) target.old target.new }
+            self.now.span.start w (at + size_at self.now.guide.now a)) words.old words.new }
     {
         plan_laws();
         self.guide.image_is_valid();
         self.guide.image_is_own();
         let first = (at - self.span.start) as usize;
-        let count = references(target.get(first)) as usize;
-        target.redirect(self.guide.plan(), first + 1, count);
+        let count = references(words.get(first)) as usize;
+        self.guide.plan().redirect(words, first + 1, count);
     }
 }

@@ -1,9 +1,10 @@
 -- The bytes of an image, one after the other.
-use Rattle.std.proofs.Common.{◌≡◌, ℕ, ◌+◌, ◌<◌, ◌≤◌, List, [], ◌∷◌, ◌++◌, length, take, drop, set, get_or, reverse, sym, ap, ◌∙◌, append_assoc}
+use Rattle.std.proofs.Common.{◌≡◌, ℕ, ◌+◌, ◌<◌, ◌≤◌, List, [], ◌∷◌, ◌++◌, length, take, drop, set, get_or, reverse, sym, ap, ◌∙◌, arith, append_assoc, length-append}
 use Rattle.std.specs.Prelude.{flat_map}
 use Rattle.std.specs.Int.{w64, to_le_bytes}
-use Rattle.std.proofs.lemmas.List.{drop_more, drop_all, reverse-append, take_more_set}
+use Rattle.std.proofs.lemmas.List.{drop_more, drop_all, length-take-le, reverse-append, take_more_set}
 use Rattle.image_streams.specs.Numbers.{numbers}
+use Rattle.heap_text.proofs.Lemmas.TokenSteps.{take_token}
 
 -- the next chunk begins where the one before it ends
 pub next_chunk_left : {C : Type 0} (items : C → List ℕ) (chunk tail : List ℕ) (index : ℕ) (old new : List C) (next : C) → length chunk ≤ index → old ≡ new ++ (next ∷ [])
@@ -34,6 +35,26 @@ number_bytes_left bytes new left more byte number past is next =
 
 pub no_bytes_left : (bytes left : List ℕ) (byte : ℕ) → length bytes ≤ byte → left ≡ [] → drop byte bytes ++ numbers left ≡ []
 no_bytes_left bytes left byte past none = ap (λ (t : List ℕ). t ++ numbers left) (drop_all byte bytes past) ∙ ap numbers none
+
+-- a whole number more was given
+pub number_given : (whole buffer row bytes left more : List ℕ) (count byte number : ℕ) → count + 8 ≤ length buffer → length row ≡ 8 → length bytes ≤ byte
+    → whole ≡ take count buffer ++ (drop byte bytes ++ numbers left) → left ≡ number ∷ more → row ≡ to_le_bytes w64 number
+    → whole ≡ take (count + 8) (take count buffer ++ (row ++ drop 8 (drop count buffer))) ++ (drop byte bytes ++ numbers more)
+number_given whole buffer row bytes left more count byte number inside eight past is next row_is =
+    let front : List ℕ = take count buffer in
+    let back : List ℕ = drop 8 (drop count buffer) in
+    let none : drop byte bytes ≡ [] = drop_all byte bytes past in
+    let len : count + 8 ≡ length (front ++ row) = omega (arith, eight, length-append front row, length-take-le count buffer (omega (arith, inside))) in
+    let put : take (count + 8) (front ++ (row ++ back)) ≡ front ++ row =
+    ap (λ (t : List ℕ). take (count + 8) t) (sym (append_assoc front row back))
+    ∙ (ap (λ (n : ℕ). take n ((front ++ row) ++ back)) len ∙ take_token (front ++ row) back) in
+    is
+    ∙ (ap (λ (t : List ℕ). front ++ (t ++ numbers left)) none
+    ∙ (ap (λ (t : List ℕ). front ++ numbers t) next
+    ∙ (ap (λ (t : List ℕ). front ++ (t ++ numbers more)) (sym row_is)
+    ∙ (sym (append_assoc front row (numbers more))
+    ∙ (ap (λ (t : List ℕ). t ++ numbers more) (sym put)
+    ∙ ap (λ (t : List ℕ). take (count + 8) (front ++ (row ++ back)) ++ (t ++ numbers more)) (sym none))))))
 
 -- one byte more was given
 pub byte_given : (whole left rest buffer : List ℕ) (count byte : ℕ) → count < length buffer → whole ≡ take count buffer ++ left → left ≡ byte ∷ rest

@@ -82,9 +82,6 @@ GivesNumber rest found new = (n : ℕ) (after : List ℕ) → n < 2 ^ 64 → IsA
 abbrev pub GivesToken : List ℕ → Option (List ℕ) → List ℕ → Type 0
 GivesToken rest found new = (token after : List ℕ) → IsToken token → IsAfterToken after → rest ≡ 32 ∷ (token ++ after) → (found ≡ Some token) × (new ≡ after)
 
-abbrev pub ParsesNumber : List ℕ → Option ℕ → Type 0
-ParsesNumber token found = (n : ℕ) → n < 2 ^ 64 → token ≡ decimal n → found ≡ Some n
-
 pub some_same : {A : Type 0} (x y : A) → Some x ≡ Some y → x ≡ y
 some_same x y e = cc
 
@@ -125,19 +122,19 @@ pub record IsNextNumber (left new : List ℕ) (found : Option ℕ) : Type 0 wher
   pub rest_is : new ≡ flat_map number_text more
   pub found_is : found ≡ Some word
 
-pub number_next : (left rest token new : List ℕ) (found : Option ℕ) → AllByRecursion (λ w. w < 2 ^ 64) left → rest ≡ flat_map number_text left
-    → (rest ≡ [] → ⊥) → GivesToken rest (Some token) new → ParsesNumber token found → IsNextNumber left new found
-number_next [] rest token new found fits is none some parses = absurd (none is)
-number_next (w ∷ more) rest token new found fits is none some parses =
-    let both = some (decimal w) (flat_map number_text more) (decimal_is_token w fits.0) (numbers_after more) (is ∙ numbers_front w more) in
-    record { word = w; more = more; left_is = refl; rest_is = both.1; found_is = parses w fits.0 (some_same token (decimal w) both.0) }
+pub number_next : (left rest new : List ℕ) (found : Option ℕ) → AllByRecursion (λ w. w < 2 ^ 64) left → rest ≡ flat_map number_text left
+    → (rest ≡ [] → ⊥) → GivesNumber rest found new → IsNextNumber left new found
+number_next [] rest new found fits is none gives = absurd (none is)
+number_next (w ∷ more) rest new found fits is none gives =
+    let both = gives w (flat_map number_text more) fits.0 (numbers_after more) is in
+    record { word = w; more = more; left_is = refl; rest_is = both.1; found_is = both.0 }
 
--- without a next token no number is left
-pub number_last : (left rest new : List ℕ) (found : Option (List ℕ)) → AllByRecursion (λ w. w < 2 ^ 64) left → rest ≡ flat_map number_text left
-    → found ≡ None → GivesToken rest found new → left ≡ []
-number_last [] rest new found fits is missing some = refl
-number_last (w ∷ more) rest new found fits is missing some =
-    absurd (none_some (decimal w) (sym missing ∙ (some (decimal w) (flat_map number_text more) (decimal_is_token w fits.0) (numbers_after more) (is ∙ numbers_front w more)).0))
+-- at the end of the line no number is left
+pub number_last : (left rest : List ℕ) → rest ≡ flat_map number_text left → rest ≡ [] → left ≡ []
+number_last [] rest is none = refl
+number_last (w ∷ more) rest is none =
+    let empty = ap (λ (xs : List ℕ). length xs) (sym none ∙ (is ∙ numbers_front w more)) in
+    absurd (omega (arith, empty))
 
 and_true : (b : Bool) → b ≡ (b && true)
 and_true true = refl
@@ -152,12 +149,12 @@ same_more first w [] = and_true (w == first)
 same_more first w (x ∷ xs) =
     and_assoc (x == first) (list_all (λ y. y == first) xs) (w == first) ∙ ap (λ b. (x == first) && b) (same_more first w xs)
 
-pub numbers_step : (old now new : WordList) (rest rest' token : List ℕ) (first word len : ℕ) (equal equal' : Bool) (ws : List ℕ)
-    → AreNumbers old now rest first equal ws → (rest ≡ [] → ⊥) → GivesToken rest (Some token) rest' → ParsesNumber token (Some word)
+pub numbers_step : (old now new : WordList) (rest rest' : List ℕ) (first word len : ℕ) (equal equal' : Bool) (ws : List ℕ)
+    → AreNumbers old now rest first equal ws → (rest ≡ [] → ⊥) → GivesNumber rest (Some word) rest'
     → old.len + length ws ≤ len → (now.len < len → HasPushed now new (word ∷ [])) → equal' ≡ (equal && (word == first)) → AreNumbers old new rest' first equal' ws
-numbers_step old now new rest rest' token first word len equal equal' ws a none some parses room push is =
+numbers_step old now new rest rest' first word len equal equal' ws a none gives room push is =
     let p = a.parsing in
-    let next = number_next p.left rest token rest' (Some word) p.fits a.remains none some parses in
+    let next = number_next p.left rest rest' (Some word) p.fits a.remains none gives in
     let same : next.word ≡ word = sym (some_same word next.word next.found_is) in
     let left : p.left ≡ word ∷ next.more = next.left_is ∙ ap (λ (x : ℕ). x ∷ next.more) same in
     record {
@@ -167,20 +164,20 @@ numbers_step old now new rest rest' token first word len equal equal' ws a none 
       begins = a.begins;
     }
 
-pub numbers_wrong : (old now : WordList) (rest rest' token : List ℕ) (first : ℕ) (equal : Bool) (ws : List ℕ) (found : Option ℕ)
-    → AreNumbers old now rest first equal ws → (rest ≡ [] → ⊥) → GivesToken rest (Some token) rest' → found ≡ None → ParsesNumber token found → ⊥
-numbers_wrong old now rest rest' token first equal ws found a none some missing parses =
-    let next = number_next a.parsing.left rest token rest' found a.parsing.fits a.remains none some parses in
+pub numbers_wrong : (old now : WordList) (rest rest' : List ℕ) (first : ℕ) (equal : Bool) (ws : List ℕ) (found : Option ℕ)
+    → AreNumbers old now rest first equal ws → (rest ≡ [] → ⊥) → found ≡ None → GivesNumber rest found rest' → ⊥
+numbers_wrong old now rest rest' first equal ws found a none missing gives =
+    let next = number_next a.parsing.left rest rest' found a.parsing.fits a.remains none gives in
     none_some next.word (sym missing ∙ next.found_is)
 
 -- all that was to be pushed was
 pub parsing_end : (few : ℕ → Type 0) (old now : WordList) (ws : List ℕ) (p : IsParsing few old now ws) → p.left ≡ [] → p.done ≡ ws
 parsing_end few old now ws p none = sym (p.whole ∙ (ap (λ (t : List ℕ). p.done ++ t) none ∙ append-nil p.done))
 
-pub numbers_end : (old now : WordList) (rest rest' : List ℕ) (first : ℕ) (equal : Bool) (ws : List ℕ) (found : Option (List ℕ))
-    → AreNumbers old now rest first equal ws → found ≡ None → GivesToken rest found rest' → (equal ≡ all_equal ws) × HasPushed old now ws
-numbers_end old now rest rest' first equal ws found a missing some =
-    let none : a.parsing.left ≡ [] = number_last a.parsing.left rest rest' found a.parsing.fits a.remains missing some in
+pub numbers_end : (old now : WordList) (rest : List ℕ) (first : ℕ) (equal : Bool) (ws : List ℕ)
+    → AreNumbers old now rest first equal ws → rest ≡ [] → (equal ≡ all_equal ws) × HasPushed old now ws
+numbers_end old now rest first equal ws a end =
+    let none : a.parsing.left ≡ [] = number_last a.parsing.left rest a.remains end in
     let whole : a.parsing.done ≡ ws = parsing_end (λ w. w < 2 ^ 64) old now ws a.parsing none in
     (a.same ∙ (ap (λ (xs : List ℕ). list_all (λ w. w == first) xs) whole ∙ ap (λ (x : ℕ). list_all (λ w. w == x) ws) (sym a.begins)), subst (HasPushed old now) whole a.parsing.pushed)
 
@@ -412,7 +409,7 @@ counting_end len rest rest' refs others count found few i missing some =
     omega (arith, empty, i.counted)
 
 -- a token that is compared with a name
-same_from : (a b : List ℕ) → pointwise eqb a b ≡ true → a ≡ b
+pub same_from : (a b : List ℕ) → pointwise eqb a b ≡ true → a ≡ b
 same_from [] [] e = refl
 same_from [] (y ∷ b) e = cc
 same_from (x ∷ a) [] e = cc

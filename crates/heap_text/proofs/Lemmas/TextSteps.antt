@@ -1,10 +1,13 @@
 -- Texts of runs of words, one word at a time, and counts of lines.
-use Rattle.std.proofs.Common.{◌≡◌, ◌∙◌, ◌+◌, ◌-◌, ◌<◌, ◌≤◌, ◌==◌, ◌&&◌, ℕ, Bool, true, List, [], ◌∷◌, ◌++◌, suc, refl, sym, ap, take, drop, length, slice_index, append_assoc, append-nil, length-append, arith, subst, Option, None, Some, IfSome, if◌then◌else◌}
+use Rattle.std.proofs.Common.{◌≡◌, ◌∙◌, ◌+◌, ◌-◌, ◌<◌, ◌≤◌, ◌==◌, ◌&&◌, ℕ, Bool, true, List, [], ◌∷◌, ◌++◌, zero, suc, refl, sym, ap, take, drop, get_or, length, slice_index, append_assoc, append-nil, length-append, take-take, arith, subst, Option, None, Some, IfSome, if◌then◌else◌}
 use Rattle.std.specs.Prelude.{flat_map}
 use Rattle.std.specs.List.{list_all, range_with_len}
+use Rattle.std.proofs.lemmas.Grind.{flat_map-append}
 use Rattle.std.proofs.lemmas.List.Concat.{flat_map-cons}
-use Rattle.std.proofs.lemmas.List.Sums.{count_by_more_yes, sum_by-append, sum_by-take-drop, sum_by-take-le, sum_by_more}
-use Rattle.heap_text.specs.Text.{addresses_between, number_line}
+use Rattle.std.proofs.lemmas.List.Sums.{count_by_more_yes, sum_by-append, sum_by-take-drop, sum_by-take-le}
+use Rattle.object_heap.specs.HeapImage.{HeapImage, end_of}
+use Rattle.std.proofs.lemmas.List.{append_cancel_left, drop_more}
+use Rattle.heap_text.specs.Text.{addresses_between, dead_text, front_text, lines_from, number_line, object_text, roots_line, text_of}
 use Rattle.std.specs.Io.KnownBytes.{Consumes, IsAtEnd}
 use Rattle.std.proofs.KnownBytes.{Consumes-nil, Consumes-trans}
 use Rattle.heap_text.specs.TextLines.{ended_lines, IsAbout, IsLineOf, IsOfLine, IsOfNoLine, IsWithin, EndsInLine}
@@ -28,6 +31,37 @@ append_word f told new whole i to less all is =
     ∙ (append_assoc told (f i) rest
     ∙ (ap (λ xs. told ++ xs) (sym (flat_map-cons f i (addresses_between (i + 1) to)))
     ∙ (ap (λ xs. told ++ flat_map f xs) (sym (addresses_between-cons i to less)) ∙ all)))
+
+range_parts : (a m n k : ℕ) → k ≡ m + n → range_with_len a k ≡ range_with_len a m ++ range_with_len (a + m) n
+range_parts a zero n k is =
+    let e : k ≡ n = omega (arith, is) in
+    let at : a ≡ a + 0 = omega arith in
+    ap (λ j. range_with_len a j) e ∙ ap (λ j. range_with_len j n) at
+range_parts a (suc m) n k is =
+    let e : k ≡ suc (m + n) = omega (arith, is) in
+    let at : a + 1 + m ≡ a + suc m = omega arith in
+    ap (λ j. range_with_len a j) e
+    ∙ ap (λ (xs : List ℕ). a ∷ xs) (range_parts (a + 1) m n (m + n) refl ∙ ap (λ j. range_with_len (a + 1) m ++ range_with_len j n) at)
+
+-- a row of words more is written, and the whole stays
+pub append_row : (f : ℕ → List ℕ) (told new whole : List ℕ) (i k to : ℕ) → k ≤ to - i → told ++ flat_map f (addresses_between i to) ≡ whole
+    → new ≡ told ++ flat_map f (addresses_between i (i + k)) → new ++ flat_map f (addresses_between (i + k) to) ≡ whole
+append_row f told new whole i k to within all is =
+    let row : List ℕ = range_with_len i k in
+    let rest : List ℕ = addresses_between (i + k) to in
+    let e : i + k - i ≡ k = omega arith in
+    let count : to - i ≡ k + (to - (i + k)) = omega (arith, within) in
+    let parts : addresses_between i to ≡ row ++ rest = range_parts i k (to - (i + k)) (to - i) count in
+    ap (λ (t : List ℕ). t ++ flat_map f rest) (is ∙ ap (λ n. told ++ flat_map f (range_with_len i n)) e)
+    ∙ (append_assoc told (flat_map f row) (flat_map f rest)
+    ∙ (ap (λ (t : List ℕ). told ++ t) (sym (ap (flat_map f) parts ∙ flat_map-append f row rest)) ∙ all))
+
+-- a word more is written before the others
+pub prepend_word : (f : ℕ → List ℕ) (new others : List ℕ) (i j to : ℕ) → i < to → j ≡ i + 1 → others ≡ flat_map f (addresses_between j to) → new ≡ f i ++ others
+    → new ≡ flat_map f (addresses_between i to)
+prepend_word f new others i j to less next rest is =
+    is ∙ (ap (λ (t : List ℕ). f i ++ t) (rest ∙ ap (λ k. flat_map f (addresses_between k to)) next)
+    ∙ (sym (flat_map-cons f i (addresses_between (i + 1) to)) ∙ ap (flat_map f) (sym (addresses_between-cons i to less))))
 
 -- a predicate that holds of the first address depends on the others
 pub all_but_first : (p : ℕ → Bool) (i to : ℕ) → i < to → p i ≡ true
@@ -54,16 +88,17 @@ append_four t0 t1 t2 t3 t4 a b c d e1 e2 e3 e4 =
 pub same_line : (name told new : List ℕ) (n m : ℕ) → new ≡ told ++ number_line name n → n ≡ m → new ≡ told ++ number_line name m
 same_line name told new n m is same = is ∙ ap (λ k. told ++ number_line name k) same
 
--- one byte more is seen, which is no newline
-pub ends_after_byte : (bytes : List ℕ) (place line begin : ℕ) → EndsInLine bytes place line begin → place < length bytes → EndsInLine bytes (place + 1) line begin
-ends_after_byte bytes place line begin s inside =
-    let more = sum_by_more (λ b. if b == 10 then 1 else 0) bytes place 0 inside in
+-- more bytes are seen
+pub ends_further : (bytes : List ℕ) (from to line begin : ℕ) → EndsInLine bytes from line begin → from ≤ to → to ≤ length bytes → EndsInLine bytes to line begin
+ends_further bytes from to line begin s low within =
+    let less = sum_by-take-le (λ b. if b == 10 then 1 else 0) (take to bytes) from in
+    let same : ended_lines (take from (take to bytes)) ≡ ended_lines (take from bytes) = ap ended_lines (take-take from to bytes low) in
     record {
-      within = omega arith;
-      begun = omega (arith, s.begun);
+      within = within;
+      begun = omega (arith, s.begun, low);
       some = s.some;
-      few = omega (arith, s.few);
-      counted = omega (arith, more, s.counted);
+      few = omega (arith, s.few, low);
+      counted = omega (arith, less, same, s.counted);
     }
 
 -- a newline more is seen
@@ -135,3 +170,30 @@ none_given device bytes none = subst (Consumes device device) (sym none) (Consum
 pub more_given : (first old new : Option (List ℕ)) (before after came : List ℕ) → Consumes first old before → Consumes old new came → after ≡ before ++ came
     → Consumes first new after
 more_given first old new before after came c d is = subst (Consumes first new) (sym is) (Consumes-trans first old new before came c d)
+
+-- the lines up to the end of the next object, and those after it
+pub next_lines : (image : HeapImage) (from i next : ℕ) (live cleared dead lines : List ℕ) → i < length live → cleared ≡ []
+    → dead ≡ cleared ++ dead_text image from (get_or live i 0) → lines ≡ dead ++ object_text image (get_or live i 0) → next ≡ end_of image (get_or live i 0)
+    → lines_from image from (drop i live) ≡ lines ++ lines_from image next (drop (i + 1) live)
+next_lines image from i next live cleared dead lines inside none dead_is lines_is next_is =
+    let place : ℕ = get_or live i 0 in
+    let D : List ℕ = dead_text image from place in
+    let O : List ℕ = object_text image place in
+    let X : List ℕ = lines_from image (end_of image place) (drop (i + 1) live) in
+    let both : lines ≡ D ++ O = lines_is ∙ ap (λ (t : List ℕ). t ++ O) (dead_is ∙ ap (λ (t : List ℕ). t ++ D) none) in
+    ap (λ (xs : List ℕ). lines_from image from xs) (drop_more live i 0 inside)
+    ∙ (sym (append_assoc D O X) ∙ (ap (λ (t : List ℕ). t ++ X) (sym both) ∙ ap (λ (n : ℕ). lines ++ lines_from image n (drop (i + 1) live)) (sym next_is)))
+
+-- the lines before the words, and those of the words
+pub first_lines : (image : HeapImage) (none front both lines : List ℕ) → none ≡ [] → front ≡ none ++ front_text image → both ≡ front ++ roots_line image → lines ≡ both
+    → text_of image ≡ lines ++ lines_from image 0 image.live
+first_lines image none front both lines none_is front_is both_is lines_is =
+    let F : List ℕ = front_text image in
+    let R : List ℕ = roots_line image in
+    let X : List ℕ = lines_from image 0 image.live in
+    let whole : lines ≡ F ++ R = lines_is ∙ (both_is ∙ ap (λ (t : List ℕ). t ++ R) (front_is ∙ ap (λ (t : List ℕ). t ++ F) none_is)) in
+    sym (append_assoc F R X) ∙ ap (λ (t : List ℕ). t ++ X) (sym whole)
+
+-- what follows these lines in the rest of a text
+pub rest_follows : (lines rest after more : List ℕ) → rest ≡ lines ++ after → rest ≡ lines ++ more → after ≡ more
+rest_follows lines rest after more is is' = append_cancel_left lines after more (sym is ∙ is')

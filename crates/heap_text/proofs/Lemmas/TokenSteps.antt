@@ -1,11 +1,12 @@
 -- Splitting a line at its spaces, and reading numbers.
-use Rattle.std.proofs.Common.{◌≡◌, ◌≢◌, inl, inr, ℕ, zero, suc, ◌+◌, ◌*◌, ◌-◌, ◌%◌, ◌^◌, ◌<◌, ◌≤◌, true, ◌&&◌, decimal, List, [], ◌∷◌, ◌++◌, rules, length, get_or, take, drop, refl, ap, ◌∙◌, arith}
+use Rattle.std.proofs.Common.{◌≡◌, ◌≢◌, inl, inr, ℕ, zero, suc, ◌+◌, ◌*◌, ◌-◌, ◌%◌, ◌^◌, ◌<◌, ◌≤◌, true, ◌&&◌, decimal, List, [], ◌∷◌, ◌++◌, rules, length, get_or, take, drop, refl, sym, ap, ◌∙◌, arith, add-one, length-append}
 use Rattle.std.specs.Str.{all_ascii_digits}
 use lib.Pointwise.{pointwise}
 use lib.Dec.{eqb}
 use Rattle.std.proofs.lemmas.Bool.{cases_lt, eq-eqb}
 use Rattle.std.proofs.lemmas.Fmt.{decimal_digit, decimal_nonempty, decimal_is_IsNumeral, digits_value-decimal, first_decimal, decimal_by_steps}
-use Rattle.std.proofs.lemmas.List.{at_drop_more}
+use Rattle.std.proofs.lemmas.List.{at_drop_more, drop_all, get_or-drop, get_or_append_left}
+use Rattle.std.proofs.Math.Nat.{pow-suc, pow-le-pow_right}
 use Rattle.std.proofs.lemmas.Str.Parse.{IsNumeralModel, digit_at, numerals_by_fold}
 use Rattle.heap_text.specs.Tokens.{IsToken, IsAfterToken}
 
@@ -74,6 +75,81 @@ module _ (n : ℕ) (bytes : List ℕ) (few : n < 2 ^ 64) (is : bytes ≡ decimal
   decimal_so_far number i so_far inside =
       let step : read_on number (drop i bytes) ≡ read_on (number * 10 + (get_or bytes i 0 - 48)) (drop (i + 1) bytes) = at_drop_more (read_on number) bytes i 0 inside in
       omega (arith, step, so_far, decimal_value, read_on_grows (number * 10 + (get_or bytes i 0 - 48)) (drop (i + 1) bytes))
+
+-- a number of so many digits is read, and the digits that are left continue it
+pub record IsReading (n count number : ℕ) : Type 0 where
+  pub within : count ≤ length (decimal n)
+  pub continues : read_on number (drop count (decimal n)) ≡ read_on 0 (decimal n)
+
+-- bytes that begin with the text of a number
+module _ (n : ℕ) (rest bytes : List ℕ) (few : n < 2 ^ 64) (after : IsAfterToken rest) (is : bytes ≡ decimal n ++ rest) where
+  pub digit_there : (k : ℕ) → k < length (decimal n) → get_or bytes k 0 ≡ get_or (decimal n) k 0
+  digit_there k inside = ap (λ (xs : List ℕ). get_or xs k 0) is ∙ get_or_append_left (decimal n) rest 0 k inside
+
+  after_there : (xs : List ℕ) → IsAfterToken xs → 0 < length xs → get_or xs 0 0 ≡ 32
+  after_there [] h some = absurd (omega (arith, some))
+  after_there (x ∷ xs) h some = h
+
+  pub rest_there : drop (length (decimal n)) bytes ≡ rest
+  rest_there = ap (λ (xs : List ℕ). drop (length (decimal n)) xs) is ∙ drop_token (decimal n) rest
+
+  pub space_there : length (decimal n) < length bytes → get_or bytes (length (decimal n)) 0 ≡ 32
+  space_there inside =
+      let some : 0 < length rest = omega (arith, inside, ap (λ (xs : List ℕ). length xs) is, length-append (decimal n) rest) in
+      let at : length (decimal n) + 0 ≡ length (decimal n) = omega arith in
+      ap (λ (k : ℕ). get_or bytes k 0) (sym at)
+      ∙ (sym (get_or-drop (length (decimal n)) bytes 0 0) ∙ (ap (λ (xs : List ℕ). get_or xs 0 0) rest_there ∙ after_there rest after some))
+
+  pub digits_inside : length (decimal n) ≤ length bytes
+  digits_inside = omega (arith, ap (λ (xs : List ℕ). length xs) is, length-append (decimal n) rest)
+
+  -- a digit that comes next is one of the number
+  pub next_inside : (count number : ℕ) → IsReading n count number → count < length bytes → 48 ≤ get_or bytes count 0 → count < length (decimal n)
+  next_inside count number r inside digit = elim (cases_lt count (length (decimal n))) [
+    | inl low ↦ low
+    | inr past ↦
+        let here : length (decimal n) ≡ count = omega (arith, past, r.within) in
+        let space : get_or bytes count 0 ≡ 32 = ap (λ (k : ℕ). get_or bytes k 0) (sym here) ∙ space_there (omega (arith, here, inside)) in
+        absurd (omega (arith, space, digit))
+  ]
+
+  -- another byte comes next after the last digit only
+  pub last_inside : (count number : ℕ) → IsReading n count number → (count < length (decimal n) → (48 ≤ get_or bytes count 0) × (get_or bytes count 0 ≤ 57) → ⊥) → count ≡ length (decimal n)
+  last_inside count number r no_digit = elim (cases_lt count (length (decimal n))) [
+    | inl low ↦
+        let d = decimal_digits n (decimal n) few refl count low in
+        let same = digit_there count low in
+        absurd (no_digit low (omega (arith, d.0, same), omega (arith, d.1, same)))
+    | inr past ↦ omega (arith, past, r.within)
+  ]
+
+  pub reading_step : (count number : ℕ) → IsReading n count number → count < length (decimal n) → IsReading n (count + 1) (number * 10 + (get_or bytes count 0 - 48))
+  reading_step count number r low = record {
+    within = omega (arith, low);
+    continues = ap (λ (b : ℕ). read_on (number * 10 + (b - 48)) (drop (count + 1) (decimal n))) (digit_there count low)
+        ∙ (sym (at_drop_more (read_on number) (decimal n) count 0 low) ∙ r.continues);
+  }
+
+  pub reading_most : (count number : ℕ) → IsReading n count number → count < length (decimal n) → number * 10 + (get_or bytes count 0 - 48) ≤ n
+  reading_most count number r low =
+      omega (arith, digit_there count low, decimal_so_far n (decimal n) few refl number count r.continues low)
+
+  pub reading_end : (count number : ℕ) → IsReading n count number → count ≡ length (decimal n) → number ≡ n
+  reading_end count number r end =
+      let none : drop count (decimal n) ≡ [] = drop_all count (decimal n) (omega (arith, end)) in
+      ap (read_on number) (sym none) ∙ (r.continues ∙ decimal_value n (decimal n) few refl)
+
+pub reading_begin : (n : ℕ) → IsReading n 0 0
+reading_begin n = record { within = omega arith; continues = refl }
+
+-- a digit more keeps the number below the next power of ten
+pub below_power : (number digit count : ℕ) → number < 10 ^ count → digit ≤ 9 → number * 10 + digit < 10 ^ (count + 1)
+below_power number digit count small d =
+    let step : 10 ^ (count + 1) ≡ 10 ^ count * 10 = ap (λ (k : ℕ). 10 ^ k) (add-one count) ∙ pow-suc 10 count in
+    omega (arith, step, small, d)
+
+pub safe_power : (count : ℕ) → count ≤ 19 → 10 ^ count ≤ 10000000000000000000
+safe_power count low = pow-le-pow_right {n = 10} (omega arith) low
 
 pub append_token : (xs ys : List ℕ) → IsToken xs → IsToken ys → IsToken (xs ++ ys)
 append_token [] ys h k = k

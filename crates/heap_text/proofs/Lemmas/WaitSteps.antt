@@ -1,8 +1,9 @@
 -- Parsing a text line by line.
 use Rattle.std.proofs.Common.{◌≡◌, ℕ, zero, suc, ◌+◌, ◌-◌, ◌<◌, ◌≤◌, inl, inr, true, List, [], ◌∷◌, ◌++◌, length, take, drop, get_or, refl, sym, ap, ◌∙◌, subst, arith, append_assoc, append-nil, length-append, length-drop}
 use Rattle.std.specs.Prelude.{◌==◌}
-use Rattle.std.proofs.lemmas.Bool.{and_parts, ne_eqb}
-use Rattle.std.proofs.lemmas.List.{drop_more, drop_all, drop-drop, take_all, take-append-drop, nil_from_length, take-append-le, drop-append-le}
+use Rattle.memchr.specs.Find.{Nowhere, Passes, is_byte}
+use Rattle.std.proofs.lemmas.Bool.{and_parts, eq-eqb, eqb-true, ne_eqb}
+use Rattle.std.proofs.lemmas.List.{get_or-drop, drop_more, drop_all, drop-drop, take_all, take-append-drop, nil_from_length, take-append-le, drop-append-le}
 use Rattle.std.proofs.lemmas.List.Sums.{count_by_more_no, sum_by-take-drop}
 use Rattle.std.proofs.Math.Seq.{take-add}
 use Rattle.object_heap.specs.HeapImage.{HeapImage, IsValid}
@@ -23,6 +24,40 @@ waits_after_byte image parser bytes place more p inside other =
       expects = p.expects;
       one_line = count_by_more_no (λ b. b == 10) bytes place 0 inside (ne_eqb (get_or bytes place 0) 10 other) ∙ p.one_line;
     }
+
+-- no byte from one place up to another is a newline
+abbrev pub HasNoNewline : List ℕ → ℕ → ℕ → Type 0
+HasNoNewline bytes from to = (k : ℕ) → from ≤ k → k < to → get_or bytes k 0 ≡ 10 → ⊥
+
+waits_after_bytes : (image : HeapImage) (parser : TextParser) (bytes : List ℕ) (from n to : ℕ) (more : List ℕ) → to ≡ from + n → IsWaiting image parser bytes from more
+    → to ≤ length bytes → HasNoNewline bytes from to → IsWaiting image parser bytes to more
+waits_after_bytes image parser bytes from zero to more is p within none =
+    let same : from ≡ to = omega (arith, is) in
+    subst (λ (k : ℕ). IsWaiting image parser bytes k more) same p
+waits_after_bytes image parser bytes from (suc n) to more is p within none =
+    waits_after_bytes image parser bytes (from + 1) n to more (omega (arith, is))
+    (waits_after_byte image parser bytes from more p (omega (arith, is, within)) (none from (omega arith) (omega (arith, is)))) within
+    (λ k low high. none k (omega (arith, low)) high)
+
+-- bytes more that are no newlines
+pub waits_further : (image : HeapImage) (parser : TextParser) (bytes : List ℕ) (from to : ℕ) (more : List ℕ) → IsWaiting image parser bytes from more
+    → from ≤ to → to ≤ length bytes → HasNoNewline bytes from to → IsWaiting image parser bytes to more
+waits_further image parser bytes from to more p low within none =
+    waits_after_bytes image parser bytes from (to - from) to more (omega (arith, low)) p within none
+
+-- a search in what is left of the bytes from a place on
+module _ (bytes hay : List ℕ) (from : ℕ) (is_rest : hay ≡ drop from bytes) where
+  byte_there : (k : ℕ) → get_or hay k 0 ≡ get_or bytes (from + k) 0
+  byte_there k = ap (λ (xs : List ℕ). get_or xs k 0) is_rest ∙ get_or-drop from bytes k 0
+
+  pub passes_none : (n to : ℕ) → to ≡ from + n → Nowhere (Passes (is_byte 10) hay) 0 n → HasNoNewline bytes from to
+  passes_none n to is none k low high here =
+      let at : from + (k - from) ≡ k = omega (arith, low) in
+      let same : get_or hay (k - from) 0 ≡ 10 = byte_there (k - from) ∙ (ap (λ (j : ℕ). get_or bytes j 0) at ∙ here) in
+      none (k - from) (omega arith) (omega (arith, is, low, high)) (eq-eqb (get_or hay (k - from) 0) 10 same)
+
+  pub finds_newline : (k : ℕ) → Passes (is_byte 10) hay k → get_or bytes (from + k) 0 ≡ 10
+  finds_newline k h = sym (byte_there k) ∙ eqb-true (get_or hay k 0) 10 h
 
 -- the line that ends at a newline, and what follows it
 pub line_at : (bytes more : List ℕ) (begin place : ℕ) → begin ≤ place → place < length bytes → get_or bytes place 0 ≡ 10

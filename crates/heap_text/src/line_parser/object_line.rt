@@ -6,7 +6,7 @@ ghost use Rattle.object_heap.specs.Header.{object_header};
 ghost use Rattle.heap_text.specs.Words.{Accepts, HasParsed, all_equal, HasPushed, references_part, data_part, has_some};
 
 use super::line_error::LineError;
-use super::tokens::{Tokens, parse_number, parse_reference};
+use super::tokens::{Tokens, parse_reference};
 use crate::expected::Expected;
 use crate::parsed_heap::ParsedHeap;
 use crate::word_list::WordList;
@@ -140,8 +140,8 @@ impl WordList {
         };
         self.push_word(len, first)?;
         let mut are_equal = true;
-        while let Some(token) = tokens.next_token() {
-            let Some(word) = parse_number(token) else {
+        while !tokens.is_empty() {
+            let Some(word) = tokens.next_number() else {
                 return Err(LineError::Expected(Expected::Number));
             };
             are_equal &= word == first;

@@ -1,9 +1,12 @@
 //! Splits a line at its spaces, and parses numbers, addresses and references.
-ghost use Rattle.std.specs.Prelude.{◌≡◌, ◌+◌, ◌≤◌, ◌<◌, ◌^◌, ◌++◌, ◌∷◌, [], ℕ, List, Some, None, IfSome, OnSome, length, codes, decimal, option_map, slice_index, flat_map, ◌≢◌, IsTrue, true};
+ghost use Rattle.std.specs.Prelude.{◌≡◌, ◌+◌, ◌≤◌, ◌<◌, ◌^◌, ◌++◌, ◌∷◌, [], ℕ, List, Some, None, IfSome, OnSome, length, codes, decimal, option_map, slice_index, flat_map, ◌≢◌, IsTrue, IsSomeAnd, true, false};
 ghost use Rattle.std.specs.List.{AllByRecursion};
 ghost use Rattle.heap_text.specs.Text.{number_text, reference_text};
 ghost use Rattle.heap_text.specs.Words.{references_part, data_part};
 ghost use Rattle.heap_text.specs.Tokens.{IsToken, IsAfterToken, reference_word};
+
+/// A number of so many digits is below 2^64.
+const SAFE_DIGITS: usize = 19;
 
 /// The tokens of a line after its first one, each preceded by one space.
 #[derive(Drop)]
@@ -35,15 +38,24 @@ impl<'a> Tokens<'a> {
         Some(token)
     }
 
+    /// Whether no token is left.
+    pub(crate) fn is_empty(&self) -> bool
+        ensures some { result ≡ false → self.now.rest.now ≢ [] }
+        ensures none { result ≡ true → self.now.rest.now ≡ [] }
+    {
+        self.rest.is_empty()
+    }
+
     /// Returns the number of the next token, or `None` if that is no number or there is none.
     pub(crate) fn next_number(&mut self) -> Option<u64>
-        ensures { (n : ℕ) (rest : List ℕ) → n < 2 ^ 64 → IsAfterToken rest → self.old.rest.now ≡ number_text n ++ rest
+        ensures number { (n : ℕ) (rest : List ℕ) → n < 2 ^ 64 → IsAfterToken rest → self.old.rest.now ≡ number_text n ++ rest
             → (result ≡ Some n) × (self.new.rest.now ≡ rest) }
+        ensures less { OnSome result (length self.new.rest.now < length self.old.rest.now) }
     {
-        match self.next_token() {
-            Some(token) => parse_number(token),
-            None => None,
-        }
+        let (_space, after) = self.rest.split_first()?;
+        let (number, rest) = leading_number(after)?;
+        self.rest = rest;
+        Some(number)
     }
 
     /// Returns the number of the next token if it is 1 to `most`, else `None`.
@@ -117,6 +129,49 @@ fn split_at_space(bytes: &[u8]) -> (&[u8], &[u8])
         }
     }
     (bytes, &[])
+}
+
+/// Parses the number at the beginning, which is below 2^64 and has no leading zeros. Returns what follows it, too: nothing,
+/// or a space and more.
+fn leading_number(bytes: &[u8]) -> Option<(u64, &[u8])>
+    ensures less { IfSome result (λ parts. length parts.1.now ≤ length bytes.now) }
+    ensures number { (n : ℕ) (rest : List ℕ) → n < 2 ^ 64 → IsAfterToken rest → bytes.now ≡ decimal n ++ rest
+        → IsSomeAnd result (λ parts. (parts.0 ≡ n) × (parts.1.now ≡ rest)) }
+{
+    let most = bytes.len().min(SAFE_DIGITS);
+    let mut number = 0u64;
+    let mut count = 0;
+    while count < most && bytes[count].is_ascii_digit() {
+        number = number * 10 + u64::from(bytes[count] - b'0');
+        count += 1;
+    }
+    if count < bytes.len() && bytes[count].is_ascii_digit() {
+        let digit = u64::from(bytes[count] - b'0');
+        let longer = number.checked_mul(10)?.checked_add(digit)?;
+        return number_before(bytes, count + 1, longer);
+    }
+    number_before(bytes, count, number)
+}
+
+/// Returns a number of `count` digits and what follows them, or `None` if they begin with a needless zero, are none, or
+/// aren't a whole token.
+fn number_before(bytes: &[u8], count: usize, number: u64) -> Option<(u64, &[u8])>
+    requires { count ≤ length bytes.now }
+    ensures less { IfSome result (λ parts. length parts.1.now ≤ length bytes.now) }
+    ensures number { (n : ℕ) (rest : List ℕ) → n < 2 ^ 64 → IsAfterToken rest → bytes.now ≡ decimal n ++ rest
+        → count ≡ length (decimal n) → IsSomeAnd result (λ parts. (parts.0 ≡ number) × (parts.1.now ≡ rest)) }
+{
+    if count == 0 {
+        return None;
+    }
+    if count > 1 && bytes[0] == b'0' {
+        return None;
+    }
+    let rest = &bytes[count..];
+    if rest.is_empty() || rest[0] == b' ' {
+        return Some((number, rest));
+    }
+    None
 }
 
 /// Whether a count is 1 to `most`.

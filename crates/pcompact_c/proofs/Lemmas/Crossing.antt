@@ -1,24 +1,30 @@
 -- A part may go to another thread.
-use denote.Param.Send.{IsSend, IsSync, AllSend, AllSync, struct_send, struct_sync, recorded_send, recorded_sync, sendable}
+use denote.Param.Send.{Frees, IsSend, IsSync, AllSend, AllSync, struct_send, struct_sync, recorded_send, recorded_sync, sendable}
 use denote.Struct.Declared as declared
 use denote.Struct.Struct.{Struct}
 use Rattle.std.proofs.Crossing as heap
 use Rattle.std.proofs.Crossing.{crosses}
+use Rattle.std_alloc.proofs.SendSync as boxes
 use Rattle.std_alloc.specs.contracts.arc.Arc as Arc
 use Rattle.std_alloc.specs.contracts.vec.Vec as Vec
 use Rattle.std_heap.specs.contracts.Global as Heap
 use Rattle.std_heap.specs.contracts.GlobalAllocator.TheImpl.{ghosts}
+use Rattle.box_row.specs.contracts.place.InRow as InRow
+use Rattle.box_row.specs.contracts.place.InRowAllocator.TheImpl as handle
+use Rattle.box_row.proofs.place.InRow.TheSendSync as place
+use Rattle.raw_region.specs.contracts.region.Region as Region
+use Rattle.raw_region.proofs.region.Region.TheSendSync as region
 use Rattle.summary.specs.contracts.survey.Survey as Survey
-use Rattle.claim_board.specs.contracts.board.Board as Board
-use Rattle.claim_board.specs.contracts.desk.counter.BoardSeating.TheImpl.{ghosts as seating}
-use Rattle.claim_board.specs.contracts.pass.Pass as Pass
-use Rattle.claim_board.proofs.board.Board.TheSendSync as board
-use Rattle.claim_board.proofs.pass.Pass.TheSendSync as pass
-use Rattle.region_cells.proofs.cells.Cells.TheSendSync as cells
+use Rattle.claim_board.specs.contracts.regions.region_board.RegionBoard as RegionBoard
+use Rattle.claim_board.specs.contracts.regions.region_ticket.RegionTicket as RegionTicket
+use Rattle.claim_board.specs.contracts.desk.unrecorded.RegionBoardHasBoard.TheImpl.{ghosts as keeping}
+use Rattle.claim_board.proofs.regions.region_board.RegionBoard.TheSendSync as board
+use Rattle.claim_board.proofs.desk.Seat.TheSendSync as seat
+use Rattle.heap_image.proofs.image.ImageParts.TheSendSync as parts
 use Rattle.ready_queues.specs.contracts.ready.Thief as Thief
 use Rattle.ready_queues.proofs.ready.Thief.TheSendSync as thief
 use Rattle.ready_queues.proofs.ready.Ready.TheSendSync as ready
-use Rattle.collector.specs.contracts.workers.held_ticket.HeldTicket as HeldTicket
+use Rattle.collector.specs.contracts.workers.held_region.HeldRegion as HeldRegion
 use Rattle.collector.specs.contracts.workers.end.End as End
 use Rattle.collector.specs.contracts.workers.worker.Worker as Worker
 use Rattle.collector.specs.contracts.session.Session as Session
@@ -40,16 +46,16 @@ thieves_sync : IsSync (Vec.the_row Thief.the_row Heap.the_row ghosts)
 thieves_sync = heap.Vec-sync Thief.the_row thief.the_sync
 
 -- what the workers of a session share
-shared_send : IsSend (Shared.the_field Board.the_row Pass.the_row seating).row
+shared_send : IsSend (Shared.the_field RegionBoard.the_row keeping).row
 shared_send =
-    let T = Shared.the_type Board.the_row Pass.the_row seating in
-    let all : AllSend (declared.fields T) = (survey_send, (board.the_send, (cells.the_send, (thieves_send, (search (crosses, sendable), tt))))) in
+    let T = Shared.the_type RegionBoard.the_row keeping in
+    let all : AllSend (declared.fields T) = (survey_send, (board.the_send, (parts.the_field_send, (thieves_send, (search (crosses, sendable), tt))))) in
     struct_send (declared.shape T) all
 
-shared_sync : IsSync (Shared.the_field Board.the_row Pass.the_row seating).row
+shared_sync : IsSync (Shared.the_field RegionBoard.the_row keeping).row
 shared_sync =
-    let T = Shared.the_type Board.the_row Pass.the_row seating in
-    let all : AllSync (declared.fields T) = (survey_sync, (board.the_sync, (cells.the_sync, (thieves_sync, (search (crosses, sendable), tt))))) in
+    let T = Shared.the_type RegionBoard.the_row keeping in
+    let all : AllSync (declared.fields T) = (survey_sync, (board.the_sync, (parts.the_field_sync, (thieves_sync, (search (crosses, sendable), tt))))) in
     struct_sync (declared.shape T) all
 
 session_send : IsSend Session.the_row
@@ -67,16 +73,26 @@ session_sync =
 session_shared : IsSend (Arc.the_row Session.the_row Heap.the_row ghosts)
 session_shared = heap.Arc-send Session.the_row session_send session_sync
 
-held_send : IsSend HeldTicket.the_row
-held_send = search (crosses, sendable) depth 60 fits 20000
+ticket_send : IsSend (RegionTicket.the_field).row
+ticket_send = search (crosses, sendable) depth 60 fits 20000
+
+-- a box in a row is dropped anywhere
+place_frees : Frees handle.ghosts handle.ghosts.dealloc_token
+place_frees = record { frees = λ a τ p. λ _. tt }
+
+held_send : IsSend HeldRegion.the_row
+held_send =
+    let T = HeldRegion.the_type in
+    let all : AllSend (declared.fields T) = (ticket_send, (boxes.Box-send Region.the_row InRow.the_row handle.ghosts region.the_send place.the_send place_frees, tt)) in
+    recorded_send (Struct (declared.shape T)) T.D T.to T.to_one (struct_send (declared.shape T) all)
 
 end_send : IsSend End.the_row
 end_send = search (crosses, sendable, held_send) depth 60 fits 20000
 
-worker_send : IsSend (Worker.the_field Pass.the_row).row
+worker_send : IsSend (Worker.the_field).row
 worker_send =
-    let T = Worker.the_type Pass.the_row in
-    let all : AllSend (declared.fields T) = (pass.the_send, (ready.the_send, (search (crosses, sendable), (search (crosses, sendable, end_send) depth 60 fits 20000, tt)))) in
+    let T = Worker.the_type in
+    let all : AllSend (declared.fields T) = (seat.the_field_send, (ready.the_send, (search (crosses, sendable), (search (crosses, sendable, end_send) depth 60 fits 20000, tt)))) in
     struct_send (declared.shape T) all
 
 share_send : IsSend (Share.the_field).row

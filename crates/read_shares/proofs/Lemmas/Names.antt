@@ -3,6 +3,7 @@ pub use Rattle.std.proofs.Common.{◌≡◌, ℕ, ◌+◌, ◌-◌, ◌^◌, ◌
 pub use Rattle.std.proofs.raw_atomic.Walks.{proved, proved_at, leaves}
 pub use Rattle.core.proofs.alloc.Shapes.{after}
 pub use Rattle.core.proofs.mem.Facts.{says_two, says_three}
+pub use Rattle.core.proofs.slots.Bodies.{says_four}
 pub use base.Fraction.{full_share}
 pub use base.Fml.{Fml, Lft, ftrue, fsep, fex, fhide, flft, flent}
 pub use base.Logic.{SProp, ent, sep, emp, id⊢}

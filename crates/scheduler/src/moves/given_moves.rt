@@ -57,8 +57,8 @@ impl GivenMoves {
         Ok(GivenMoves { fill, pairs })
     }
 
-    /// All pairs, by destination and then by source.
-    pub(crate) fn pairs(&self) -> &[(u32, u32)]
+    /// All pairs (destination, source), by destination and then by source.
+    pub fn pairs(&self) -> &[(u32, u32)]
         ensures { result.now ≡ self.now.pairs }
     {
         &self.pairs

@@ -139,8 +139,9 @@ impl Moves for IndexedMoves {
     }
 }
 
-/// For each region, the index of the first pair whose destination isn't below it.
-fn first_places(alloc: Global, moves: &GivenMoves) -> Result<Vec<usize>, AllocError>
+/// For each region, the index of the first pair whose destination isn't below it. Linear in the number of regions and pairs;
+/// fails only if memory runs out.
+pub fn first_places(alloc: Global, moves: &GivenMoves) -> Result<Vec<usize>, AllocError>
     ensures { IfOk result (λ first. AreFirstPlaces moves.now first.items) }
 {
     let mut first = Vec::with_capacity(alloc, moves.regions() as usize)?;

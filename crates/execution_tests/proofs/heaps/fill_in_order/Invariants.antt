@@ -1,6 +1,7 @@
-use Rattle.std.proofs.Common.{◌≡◌}
-use Rattle.claim_board.specs.Boards.{identity, board_of}
+use Rattle.std.proofs.Common.{◌≡◌, []}
+use Rattle.claim_board.specs.Boards.{board_of, held}
+use Rattle.claim_board.specs.RegionBoards.{identity}
 use Rattle.execution_tests.proofs.heaps.fill_in_order.Given as goal
 
 abbrev pub invariant-loop-region : goal.invariant-loop-region
-invariant-loop-region g l = board_of l.pass ≡ identity l.heap.board
+invariant-loop-region l = (board_of l.seat.pass ≡ identity l.heap.board) × (held l.seat.pass ≡ [])

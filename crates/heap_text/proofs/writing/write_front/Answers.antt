@@ -1,4 +1,4 @@
-use Rattle.std.proofs.Common.{ℕ, List, ap, ◌∙◌, codes, string_bytes}
+use Rattle.std.proofs.Common.{ℕ, List, ap, ◌∙◌, codes}
 use Rattle.object_heap.specs.HeapImage.{HeapImage, heap_words, version_of}
 use Rattle.object_heap.specs.Version.{number_of}
 use Rattle.heap_text.specs.Text.{number_line}
@@ -8,11 +8,11 @@ use Rattle.heap_text.proofs.writing.write_front.Goals as goal
 pub returns : goal.returns
 returns c =
     let image : HeapImage = c.args.image.now in
-    let t0 : List ℕ = string_bytes c.args.text.now in
-    let t1 : List ℕ = string_bytes c.write_line.new.text in
-    let t2 : List ℕ = string_bytes c.write_line-2.new.text in
-    let t3 : List ℕ = string_bytes c.write_line-3.new.text in
-    let t4 : List ℕ = string_bytes c.write_line-4.new.text in
+    let t0 : List ℕ = c.args.text.now.items in
+    let t1 : List ℕ = c.write_line.new.text.items in
+    let t2 : List ℕ = c.write_line-2.new.text.items in
+    let t3 : List ℕ = c.write_line-3.new.text.items in
+    let t4 : List ℕ = c.write_line-4.new.text.items in
     append_four t0 t1 t2 t3 t4 (number_line (codes "heap version") (version_of image)) (number_line (codes "region-log") image.region_log)
     (number_line (codes "words") (heap_words image)) (number_line (codes "allowance") image.allowance)
     (same_line (codes "heap version") t0 t1 c.from.result (version_of image) c.in_ok-write_line.ensures (c.from.ensures ∙ (c.number.ensures ∙ ap number_of c.version.ensures.value)))

@@ -1,4 +1,4 @@
-use Rattle.std.proofs.Common.{◌∙◌, sym, inl, inr}
+use Rattle.std.proofs.Common.{◌∙◌, refl, sym, inl, inr}
 use Rattle.object_heap.specs.declared.version.Version.TheVariants.{Three}
 use Rattle.caller_heap.specs.HeapWords.{heap_bytes}
 use Rattle.caller_heap.specs.Lent.{heap_in}
@@ -11,7 +11,7 @@ returns-in-Ok-clause-begun c none =
 
 pub returns-in-Ok-clause-back : goal.returns-in-Ok-clause-back
 returns-in-Ok-clause-back c some =
-    elim (c.deal_lent.ensures.back some) [ inl held ↦ inl (held ∙ sym c.in-Ok.ensures.words) | inr lost ↦ inr lost ]
+    elim (c.deal_lent.ensures.back some) [ inl held ↦ inl (held ∙ sym c.in-Ok.ensures.words) | inr lost ↦ inr (lost, c.if-not-are_ready.ensures.ready refl) ]
 
 pub returns-in-Ok-clause-fault : goal.returns-in-Ok-clause-fault
 returns-in-Ok-clause-fault c some =

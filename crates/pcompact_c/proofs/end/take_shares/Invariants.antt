@@ -1,8 +1,7 @@
 use Rattle.std.proofs.Common.{◌≡◌, ◌⊎◌, length, take, drop}
-use Rattle.std.specs.Prelude.{All, None, Some, IfOk, IfErr, map}
-use Rattle.image_streams.specs.declared.fault.Fault.TheVariants.{Memory}
-use Rattle.fill.specs.FillFaults.{IsOverwritten}
-use Rattle.pcompact_c.specs.Handles.{share_in}
+use Rattle.std.specs.Prelude.{Some, IfOk, IfErr, map}
+use Rattle.image_streams.specs.declared.fault.Fault.TheVariants.{Memory, Workers}
+use Rattle.pcompact_c.specs.Handles.{HaveNoParts, share_in}
 use Rattle.pcompact_c.proofs.end.take_shares.Given as goal
 
 -- the handles so far are free, and their shares were taken in their order, but for a fault
@@ -10,7 +9,7 @@ abbrev pub invariant-loop-handle : goal.invariant-loop-handle
 invariant-loop-handle l = record {
   long : length l.handles ≡ length l.initial.handles;
   rest : drop l.handle-index l.handles ≡ drop l.handle-index l.initial.handles;
-  free : All (λ h. h.2 ≡ None) (take l.handle-index l.handles);
+  free : HaveNoParts (take l.handle-index l.handles);
   shares : IfOk l.taken (λ shares. map share_in (take l.handle-index l.initial.handles) ≡ map Some shares.items);
-  fault : IfErr l.taken (λ fault. (fault ≡ Memory) ⊎ IsOverwritten fault);
+  fault : IfErr l.taken (λ fault. (fault ≡ Memory) ⊎ (fault ≡ Workers));
 }

@@ -1,5 +1,5 @@
 -- `share_out` takes the box apart, and lends its value for a new lifetime.
-use Rattle.read_shares.proofs.Lemmas.Names.{◌≡◌, ℕ, List, [], ◌∷◌, ◌++◌, refl, ap, ◌∙◌, proved_at, says_three, ftrue, fsep, fex, flft, sem, emp, id⊢, ◌⊑◌, fact, fact_i, tables, inst_fn, a_type, dcons, dnil, Val, Item, ‵, raw, ◌⊛◌, some, later, ◌$◌, ◌∵◌, !, qed, done, move, keep, drop, use0, use1, use2, split, split3, join, fsplit, fjoin, feq_l, fpick, pick, await, rewrite, suffices, agg, sub, whole, and_then, enter, fld, no_more, of_opd, returns, stop, alloc_all, free_all, get, get_in, lands_as, look_at, pass_all, sets, no, bounded, param_laws, RattleType, Ptr, block_ptr, in_a_block, ptr_val, plain, heard, nothing, only, lent_at, lent_at_shr_laws, Stays, ends_at, stay_dropped, walk_of}
+use Rattle.read_shares.proofs.Lemmas.Names.{◌≡◌, ℕ, List, [], ◌∷◌, ◌++◌, refl, ap, ◌∙◌, proved_at, says_four, ftrue, fsep, fex, flft, sem, emp, id⊢, ◌⊑◌, fact, fact_i, tables, inst_fn, a_type, dcons, dnil, Val, Item, ‵, raw, ◌⊛◌, some, later, ◌$◌, ◌∵◌, !, qed, done, move, keep, drop, use0, use1, use2, split, split3, join, fsplit, fjoin, feq_l, fpick, pick, await, rewrite, suffices, agg, sub, whole, and_then, enter, fld, no_more, of_opd, returns, stop, alloc_all, free_all, get, get_in, lands_as, look_at, pass_all, sets, no, bounded, param_laws, RattleType, Ptr, block_ptr, in_a_block, ptr_val, plain, heard, nothing, only, lent_at, lent_at_shr_laws, Stays, ends_at, stay_dropped, walk_of}
 use base.Logic.{fst∗, never}
 use mir.Syntax.{ty_ptr, ty_struct, tcons, tnil}
 use mir.Val.{of_list, vstruct}
@@ -77,4 +77,4 @@ share_out_spec 𝓤 𝓛 𝓜 𝓡 wired X Z L LZ g d dx dd met glue md =
     move ! (3 ∷ []) $ use0 𝓛 (‵ ((Field R).own_val (p, tt) (word p ∷ []))) (made R 𝓛 p) $ fjoin ! $
     move ! (1 ∷ 0 ∷ []) $ use2 𝓛 (‵ ((Tuple (Deed ∷ S ∷ [])).own_val (deed, all) (out ∷ []))) (pair_of 𝓛 Deed S deed all w' (word p)) $
     returns ! (look_at ! 0 refl) $ free_all ! refl $ keep ! (0 ∷ 2 ∷ []) $ nothing ! $ nothing ! $ fjoin ! $ move ! (2 ∷ []) $
-    suffices ! _ (ends_at 𝓛 E stayed c z out (deed, all) ((tt, (tt, tt)), tt) (tt, tt)) $ says_three ! ((refl, refl), refl, refl) $ done !)))))))))))))))
+    suffices ! _ (ends_at 𝓛 E stayed c z out (deed, all) ((tt, (tt, tt)), tt) (tt, tt)) $ says_four ! ((refl, refl), refl, refl, refl) $ done !)))))))))))))))

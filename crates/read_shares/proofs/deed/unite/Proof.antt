@@ -1,5 +1,5 @@
 -- `unite` ends the lifetime by all of its token, and makes the box of the value that comes back.
-use Rattle.read_shares.proofs.Lemmas.Names.{◌≡◌, ℕ, T, List, [], ◌∷◌, ◌++◌, refl, sym, ap, subst, proved_at, after, ftrue, fsep, flft, emp, id⊢, ◌⊑◌, fact, fact_i, tables, inst_fn, a_type, dcons, dnil, Val, vptr, Item, ‵, raw, ◌⊛◌, some, later, at_ret, ◌$◌, ◌∵◌, !, qed, done, move, keep, drop, use0, use1, use2, split, split3, join, fsplit, fsplit3, fjoin, fjoin3, feq_i, pick, await, rewrite, suffices, sub, whole, and_then, blocks, enter, exec, first, fld, no_more, of_opd, returns, stop, alloc_all, env, free_all, get, get_in, lands_last, look_at, pass_all, sets, no, Is, shows, bounded, param_laws, RattleType, InBlock, Ptr, ptr_val, plain, heard, nothing, only, peeks, in_block_says, lent_at, lent_at_shr_laws, Goes-dropped, Stays, ends_at, says, stay_dropped, walk_of}
+use Rattle.read_shares.proofs.Lemmas.Names.{◌≡◌, ℕ, T, List, [], ◌∷◌, ◌++◌, refl, sym, ap, subst, proved_at, after, ftrue, fsep, flft, emp, id⊢, ◌⊑◌, fact, fact_i, tables, inst_fn, a_type, dcons, dnil, Val, vptr, Item, ‵, raw, ◌⊛◌, some, later, at_ret, ◌$◌, ◌∵◌, !, qed, done, move, keep, drop, use0, use1, use2, split, split3, join, fsplit, fsplit3, fjoin, fjoin3, feq_i, pick, await, rewrite, suffices, sub, whole, and_then, blocks, enter, exec, first, fld, no_more, of_opd, returns, stop, alloc_all, env, free_all, get, get_in, lands_last, look_at, pass_all, sets, no, Is, shows, bounded, param_laws, RattleType, InBlock, Ptr, ptr_val, plain, heard, nothing, only, peeks, in_block_says, lent_at, lent_at_shr_laws, Goes-dropped, Stays, ends_at, says_two, stay_dropped, walk_of}
 use mir.Val.{WT, has_ty}
 use prog.Wp.{WpFn}
 use types.ByLocal.{is}
@@ -59,10 +59,10 @@ unite_spec 𝓤 𝓛 𝓜 𝓡 wired X Z L LZ g d dd met md =
     nothing ! $ feq_i ! (List Val) (vptr b o ∷ []) (ptr_val p ∷ []) (ap (λ (q : Ptr). ptr_val q ∷ []) (sym at)) $ move ! (3 ∷ 0 ∷ 1 ∷ []) $ fjoin3 ! $ move ! (2 ∷ 0 ∷ []) $ join ! $ join ! $ use1 𝓛 (raw (Making.pre y)) (id⊢ 𝓤 _) $
     calls_at_last ! (framed 𝓤 𝓛.H 𝓜 𝓣) Making known y (and_then ! (get ! refl) (and_then ! (get ! refl) (no_more !))) (λ u.
     use1 𝓛 (later (some (λ (r : B.Denot). (alive ⊛ ‵ (B.own_val r (u ∷ []))) ⊛ some (λ (ws : Lasts made κs (a, (p, tt))). ‵ (lasts made κs (a, (p, tt)) ws) ⊛ (raw (fact 𝓤 (r.value ≡ x)) ⊛ raw (fact 𝓤 (r.alloc ≡ a))))))) (id⊢ 𝓤 _) $
-    await ! tt $ pick ! (λ r. split ! $ move ! (1 ∷ []) $ pick ! (λ _. split3 ! $ drop ! $ move ! (1 ∷ []) $ drop ! $ heard ! (r.value ≡ x) (λ value. split ! $ move ! (1 ∷ []) $
+    await ! tt $ pick ! (λ r. split ! $ move ! (1 ∷ []) $ pick ! (λ _. split3 ! $ drop ! $ move ! (1 ∷ []) $ heard ! (r.alloc ≡ a) (λ handle. heard ! (r.value ≡ x) (λ value. split ! $ move ! (1 ∷ []) $
     box_out F ! r (u ∷ []) (λ b' o' hw at' spelled'' fits'. box_in F ! r b' o' r.value at' refl $
     let w' : Val = box.word F hw b' o' in let typed' = box.box_typed F hw b' o' fits' in let is_box : u ≡ w' = ap only spelled'' in
     lands_last ! refl (subst (λ (s : Val). T (has_ty (box.box_ty F) s) × WT s) (sym is_box) typed') $ exec ! 𝓣.C 𝓣.Λ (env fn.locals l) (after 3 fn.body) (at_ret _ (W.post z)) $
     sets ! (is ! (of_opd ! (get ! refl)) is_box) refl typed' $
     returns ! (look_at ! 0 refl) $ free_all ! refl $ keep ! (0 ∷ 1 ∷ []) $ nothing ! $ nothing ! $ fjoin ! $ nothing ! $ fjoin ! $ move ! (2 ∷ []) $
-    suffices ! _ (ends_at 𝓛 E stayed c z w' r ((tt, (tt, tt)), (tt, tt)) (tt, (tt, tt))) $ says ! value $ done !))))))))))))))
+    suffices ! _ (ends_at 𝓛 E stayed c z w' r ((tt, (tt, tt)), (tt, tt)) (tt, (tt, tt))) $ says_two ! (value, handle) $ done !)))))))))))))))

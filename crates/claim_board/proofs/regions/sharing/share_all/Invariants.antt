@@ -1,18 +1,19 @@
-use Rattle.std.proofs.Common.{◌≡◌, [], length, map, vec_len}
+use Rattle.std.proofs.Common.{◌≡◌, ◌<◌, ◌≤◌, ℕ, [], length}
 use Rattle.std.specs.Prelude.{slice_index_or}
-use Rattle.std.specs.Vec.{vec_capacity}
+use Rattle.box_row.specs.Rows.{IsSameRow, items, spot}
 use Rattle.scheduler.specs.MoveTable.{MoveTable, IsMoveTable}
 use Rattle.claim_board.specs.Places.{ArePlaces}
 use Rattle.claim_board.specs.Sharings.{AreSharedFrom}
 use Rattle.claim_board.specs.Slots.{all_slots}
+use Rattle.claim_board.proofs.Lemmas.Lists.{EndsIn}
 use Rattle.claim_board.proofs.regions.sharing.share_all.Given as goal
 
 abbrev pub invariant-loop-whole : goal.invariant-loop-whole
 invariant-loop-whole l =
-    (Rattle.claim_board.proofs.Lemmas.Lists.EndsIn l.fn.regions.items l.regions.items)
-    × (vec_capacity l.regions ≡ vec_capacity l.fn.regions)
+    EndsIn (items l.fn.row) (items l.row)
+    × IsSameRow l.fn.row l.row
     × (length l.values.items ≡ length l.fn.values.items)
-    × ((m : MoveTable) → IsMoveTable m → ArePlaces m l.places → length l.values.items ≡ all_slots m → AreSharedFrom m (length l.regions.items) (λ r. slice_index_or (map (λ b. b.value) l.fn.regions.items) r []) l.values.items)
+    × ((m : MoveTable) → IsMoveTable m → ArePlaces m l.places → length l.values.items ≡ all_slots m → AreSharedFrom m (length (items l.row)) (λ r. slice_index_or (items l.fn.row) r []) (spot l.fn.row) l.values.items)
 
 abbrev pub decreases-loop-whole : goal.decreases-loop-whole
-decreases-loop-whole l = vec_len l.regions
+decreases-loop-whole l = length (items l.row)

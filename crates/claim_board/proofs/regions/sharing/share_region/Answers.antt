@@ -1,6 +1,7 @@
 use Rattle.std.proofs.Common.{◌≡◌, ◌+◌, ℕ, length, cond, nat_lt, Some, refl, sym, ap, ◌∙◌, subst}
 use Rattle.std.specs.Prelude.{slice_set}
 use Rattle.std.proofs.lemmas.List.{get_or_default}
+use Rattle.std.specs.Box.{box_allocator}
 use Rattle.claim_board.specs.declared.regions.holding.Holding.TheVariants.{Share, Original}
 use Rattle.claim_board.specs.Places.{AreReaders}
 use Rattle.claim_board.specs.Sharings.{with_right}
@@ -26,6 +27,6 @@ returns-clause-shared c =
     let one = c.put_right.ensures in
     let other = c.put_right-2.ensures in
     let e : c.args.places.now.pairs ≡ length m.pairs = places.pairs in
-    shares_region m r two are lt old _ all z s0 s1 s2 c.args.whole.value
+    shares_region m r two are lt old _ all z s0 s1 s2 c.args.whole.value (box_allocator c.args.whole)
     (ap (λ vs. slice_set vs (c.args.places.now.pairs + r) z) (other.put ∙ ap (λ vs. with_right c.args.places.now.pairs vs two.1 y) one.put) ∙ ap (λ n. slice_set (with_right n (with_right n old two.0 x) two.1 y) (n + r) z) e)
-    refl out.value.0 refl refl out.value.1 out.same out.all one.same.1 one.same.0 (ap (λ n. s1.parts + cond {A = ℕ} (nat_lt two.0 n) 1 0) (sym e) ∙ one.left) other.same.0 (ap (λ n. s2.parts + cond {A = ℕ} (nat_lt two.1 n) 1 0) (sym e) ∙ other.left)
+    refl out.value.0 (ap (λ a. Some a) out.alloc) refl refl out.value.1 out.same out.all one.same.1 one.same.0 (ap (λ n. s1.parts + cond {A = ℕ} (nat_lt two.0 n) 1 0) (sym e) ∙ one.left) other.same.0 (ap (λ n. s2.parts + cond {A = ℕ} (nat_lt two.1 n) 1 0) (sym e) ∙ other.left)

@@ -1,13 +1,14 @@
-use Rattle.std.proofs.Common.{◌≡◌, ◌<◌, ◌≤◌, ℕ, length, map, vec_len}
-use Rattle.std.specs.Vec.{vec_capacity}
-use Rattle.scheduler.specs.MoveTable.{MoveTable, region_count}
+use Rattle.std.proofs.Common.{◌≡◌, length}
+use Rattle.box_row.specs.Rows as rows
+use Rattle.scheduler.specs.MoveTable.{MoveTable}
 use Rattle.claim_board.specs.Places.{ArePlaces}
-use Rattle.claim_board.specs.Slots.{all_slots}
-use Rattle.claim_board.specs.Unions.{IsComplete, AreUnited}
+use Rattle.claim_board.specs.Unions.{AreReady, AreUnited, AreEmptied}
 use Rattle.claim_board.proofs.regions.uniting.unite_all.Given as goal
 
 abbrev pub invariant-loop-region : goal.invariant-loop-region
-invariant-loop-region l =
-    (vec_len l.room ≡ l.region)
-    × (length l.places.readers.items ≤ vec_capacity l.room)
-    × ((m : MoveTable) → ArePlaces m l.places → length l.fn.values.items ≡ all_slots m → ((r : ℕ) → r < region_count m → IsComplete m r l.fn.values.items) → AreUnited m l.region l.fn.values.items l.values.items (map (λ b. b.value) l.room.items))
+invariant-loop-region g l =
+    let items = g.S.SlotValues.items in
+    let is_left = g.S.SlotValues.is_left in
+    (length (rows.items l.row) ≡ l.region)
+    × rows.IsSameRow l.fn.row l.row
+    × ((m : MoveTable) → ArePlaces m l.places → AreReady m (items l.fn.values) (is_left l.fn.values) → AreUnited m l.region (items l.fn.values) (items l.values) (rows.items l.row) × AreEmptied m l.region (is_left l.fn.values) (is_left l.values))

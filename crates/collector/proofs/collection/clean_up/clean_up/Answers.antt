@@ -1,58 +1,21 @@
-use Rattle.std.proofs.Common.{◌≡◌, ◌++◌, ℕ, List, length, drop, take, ap, sym, ◌∙◌, subst, arith}
-use Rattle.std.proofs.Math.Seq.{take-append_seam}
-use Rattle.std.specs.Prelude.{map, option_map}
-use Rattle.std.specs.List.{concat}
-use Rattle.object_heap.specs.HeapImage.{HeapImage, IsValid, AreBlocks, versioned_image_of}
-use Rattle.summary.specs.NewAddresses.{new_address, new_top}
-use Rattle.summary.specs.Compaction.{compact, redirected}
-use Rattle.fill.specs.MovedHeap.{cleared}
+use Rattle.std.proofs.Common.{◌≡◌, ◌<◌, ℕ, sym, subst, ap, ◌∙◌}
+use Rattle.object_heap.specs.HeapImage.{HeapImage, IsValid, region_count as regions_of}
+use Rattle.scheduler.specs.MoveTable.{MoveTable, region_count, to_fill}
+use Rattle.claim_board.specs.RegionBoards.{moves, original_words, moved_words}
+use Rattle.collector.proofs.Lemmas.Regions.{all_moved, block_stays}
 use Rattle.collector.proofs.collection.clean_up.clean_up.Goals as goal
 
--- a vector whose items are all replaced
-all_new : {X : Type 0} (n : ℕ) (new old : List X) → length new ≡ n → take n (new ++ drop (length new) old) ≡ new
-all_new n new old e = ap (λ k. take k (new ++ drop (length new) old)) (sym e) ∙ take-append_seam new (drop (length new) old)
-
--- two images alike in every part
-same_image : (x y : HeapImage) → x.layout ≡ y.layout → x.version ≡ y.version → x.region_log ≡ y.region_log → x.allowance ≡ y.allowance → x.words ≡ y.words → x.live ≡ y.live → x.roots ≡ y.roots → x ≡ y
-same_image x y l v a b c d e = λ i. record { version = v i; layout = l i; region_log = a i; allowance = b i; words = c i; live = d i; roots = e i }
-
-pub into_image-requires-clause-regions : goal.into_image-requires-clause-regions
-into_image-requires-clause-regions g c =
-    let plan : HeapImage = c.args.survey.now in
-    let parts = c.in_ok-parts.parts in
-    let updated : List (List ℕ) = c.update_deferred.new.regions in
-    let cleared' : List (List ℕ) = c.clear_above.new.regions in
-    let n : ℕ = parts.regions.len in
-    let one : length updated ≡ n = omega (arith, c.update_deferred.auto.regions, c.as_mut_slice.ensures.len) in
-    let first : c.as_mut_slice-2.result.now ≡ updated = c.as_mut_slice-2.ensures.value ∙ all_new n updated parts.regions.items one in
-    let two : length cleared' ≡ n = omega (arith, c.clear_above.auto.regions, ap length first, one) in
-    let second = all_new n cleared' (take n (updated ++ drop (length updated) parts.regions.items)) two in
-    let log : parts.region_log ≡ plan.region_log = c.in_ok-parts.ensures.numbers.0 ∙ ap (λ (i : HeapImage). i.region_log) c.requires.cells in
-    let whole : AreBlocks plan.region_log cleared' = c.clear_above.ensures.blocks plan.region_log (subst (AreBlocks plan.region_log) (sym first) c.update_deferred.ensures.blocks) in
-    subst (AreBlocks parts.region_log) (sym second) (subst (λ l. AreBlocks l cleared') (sym log) whole)
-
-pub into_image-requires-clause-valid : goal.into_image-requires-clause-valid
-into_image-requires-clause-valid g c =
-    let plan : HeapImage = c.args.survey.now in
-    let parts = c.in_ok-parts.parts in
-    let updated : List (List ℕ) = c.update_deferred.new.regions in
-    let cleared' : List (List ℕ) = c.clear_above.new.regions in
-    let places : List ℕ = c.redirect_live.new.live in
-    let n : ℕ = parts.regions.len in
-    let one : length updated ≡ n = omega (arith, c.update_deferred.auto.regions, c.as_mut_slice.ensures.len) in
-    let first : c.as_mut_slice-2.result.now ≡ updated = c.as_mut_slice-2.ensures.value ∙ all_new n updated parts.regions.items one in
-    let two : length cleared' ≡ n = omega (arith, c.clear_above.auto.regions, ap length first, one) in
-    let three : length places ≡ parts.live.len = omega (arith, c.redirect_live.auto.live, c.as_mut_slice-3.ensures.len) in
-    let second = all_new n cleared' (take n (updated ++ drop (length updated) parts.regions.items)) two in
-    let log : parts.region_log ≡ plan.region_log = c.in_ok-parts.ensures.numbers.0 ∙ ap (λ (i : HeapImage). i.region_log) c.requires.cells in
-    let version : parts.version ≡ plan.version = c.in_ok-parts.ensures.version ∙ ap (λ (i : HeapImage). i.version) c.requires.cells in
-    let allowed : parts.allowance ≡ plan.allowance = c.in_ok-parts.ensures.numbers.1 ∙ ap (λ (i : HeapImage). i.allowance) c.requires.cells in
-    let words = ap concat second ∙ c.clear_above.ensures.words ∙ ap (λ (bs : List (List ℕ)). cleared c.new_top.result (concat bs)) first ∙ ap (λ k. cleared k (concat updated)) (c.new_top.ensures ∙ ap new_top c.plan-plan.ensures) ∙ c.update_deferred.ensures.compacted in
-    let live = all_new parts.live.len places parts.live.items three ∙ c.redirect_live.ensures ∙ ap (map (new_address plan)) (c.as_mut_slice-3.ensures.value ∙ c.in_ok-parts.ensures.live ∙ ap (λ (i : HeapImage). i.live) c.requires.cells) in
-    let image : HeapImage = versioned_image_of parts.version parts.region_log parts.allowance
-    (take n (cleared' ++ drop (length cleared') (take n (updated ++ drop (length updated) parts.regions.items))))
-    (take parts.live.len (places ++ drop (length places) parts.live.items)) (option_map (λ v. v.items) c.redirected_roots.result) in
-    let roots = subst (λ (i : HeapImage). option_map (λ v. v.items) c.redirected_roots.result ≡ option_map (map (redirected i)) i.roots) c.plan-plan.ensures c.redirected_roots.ensures in
-    let valid = subst IsValid c.plan-plan.ensures c.planned_image_is_valid.ensures in
-    let same : image ≡ compact plan = same_image image (compact plan) (sym valid.own) version log allowed words live roots in
-    subst IsValid (sym same) (c.compaction_is_valid.ensures plan valid)
+pub compaction_of-image-requires-clause-moved : goal.compaction_of-image-requires-clause-moved
+compaction_of-image-requires-clause-moved g c =
+    let image : HeapImage = c.args.survey.now in
+    let b = c.requires.moved.0 in
+    let keeps = c.requires.moved.1 in
+    let count = c.requires.moved.2 in
+    let words = c.requires.moved.3 in
+    let valid : IsValid image = subst IsValid c.plan.ensures c.planned_image_is_valid.ensures in
+    let same : region_count (moves b) ≡ regions_of image = ap region_count keeps.moves ∙ c.moves_of_images.ensures.regions image in
+    all_moved image (moves b) (original_words b) (moved_words b) c.args.moved.items (count ∙ same)
+    (λ r inside. words r (subst (λ (n : ℕ). r < n) (sym same) inside))
+    (λ r. ap (λ (m : MoveTable). to_fill m r) keeps.moves ∙ (c.moves_of_images.ensures.to_fill image valid r ∙ c.regions_to_fill.ensures.count image r))
+    keeps.original keeps.moved
+    (λ r after inside. block_stays image r (c.regions_to_fill.ensures.count image r) (c.blocks_of_regions.ensures.moved image r inside) (λ above. c.blocks_of_regions.ensures.kept image r above inside) after)

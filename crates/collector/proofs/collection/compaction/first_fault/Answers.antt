@@ -13,7 +13,7 @@ ended_so (Err (Stopped held)) P holds = search
 ended_so (Err (Failed fault)) P holds = holds fault refl
 
 pub returns-then-is_some-clause-lowest : goal.returns-then-is_some-clause-lowest
-returns-then-is_some-clause-lowest g c = rw c.fault-met.ensures (ended_so c.worker-item.result.result _ (λ fault ended. (
+returns-then-is_some-clause-lowest c = rw c.fault-met.ensures (ended_so c.worker-item.result.result _ (λ fault ended. (
   c.loop-worker.worker-index,
   c.worker-item.result,
   c.loop-worker-test.true,

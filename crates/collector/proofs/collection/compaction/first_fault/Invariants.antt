@@ -5,4 +5,4 @@ use Rattle.collector.proofs.collection.compaction.first_fault.Given as goal
 
 -- no earlier worker has met a fault
 abbrev pub invariant-loop-worker : goal.invariant-loop-worker
-invariant-loop-worker g l = (j : ℕ) (v : _) → j < l.worker-index → met_fault (slice_index_or l.workers j v).result ≡ None
+invariant-loop-worker l = (j : ℕ) (v : _) → j < l.worker-index → met_fault (slice_index_or l.workers j v).result ≡ None

@@ -1,5 +1,5 @@
 use Rattle.std.proofs.Common.{sym, ap, ◌∙◌}
-use Rattle.claim_board.specs.Boards.{identity}
+use Rattle.claim_board.specs.RegionBoards.{identity}
 use Rattle.collector.proofs.session.dealing.shares_of.Goals as goal
 
 pub deal-requires-clause-seats : goal.deal-requires-clause-seats

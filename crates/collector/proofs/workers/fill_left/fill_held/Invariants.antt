@@ -1,20 +1,20 @@
 use Rattle.std.proofs.Common.{◌≡◌, ◌<◌, ◌≤◌, ℕ, length, get_or}
-use Rattle.std.specs.Prelude.{All}
 use Rattle.summary.specs.RegionData.{fill_count}
-use Rattle.claim_board.specs.Boards.{moves, identity, board_of, caller}
-use Rattle.claim_board.specs.declared.pass.Pass.{Pass}
+use Rattle.claim_board.specs.Boards.{worker}
 use Rattle.collector.specs.declared.workers.worker.Worker.{Worker}
-use Rattle.collector.specs.Rest.{IsTidy, LeavesTidy}
+use Rattle.collector.specs.Rest.{Rests, Leaves, AreOf}
 use Rattle.collector.proofs.workers.fill_left.fill_held.Given as goal
 
 -- those so far are at rest, and the others are as they were
 abbrev pub invariant-loop-worker : goal.invariant-loop-worker
-invariant-loop-worker g l = record {
-  number : l.number ≡ l.worker-index;
-  long : length l.workers ≡ length l.initial.workers;
-  seats : All (λ w. board_of w.seat ≡ identity l.task.shared.now.desk) l.workers;
-  numbered : (k : ℕ) (w : Worker Pass) → k < length l.workers → (caller (get_or l.workers k w).seat).worker ≡ k;
-  done : (k : ℕ) (w : Worker Pass) → k < l.worker-index → IsTidy (caller (get_or l.workers k w).seat);
-  rest : (k : ℕ) (w : Worker Pass) → l.worker-index ≤ k → k < length l.workers
-      → LeavesTidy (moves l.task.shared.now.desk) (fill_count l.task.shared.now.survey) (get_or l.workers k w).result (caller (get_or l.workers k w).seat);
-}
+invariant-loop-worker g l =
+    let board = g.D.HasBoard.keeps l.task.shared.now.desk in
+    record {
+      number : l.number ≡ l.worker-index;
+      long : length l.workers ≡ length l.initial.workers;
+      seats : AreOf board l.workers;
+      numbered : (k : ℕ) (w : Worker) → k < length l.workers → worker (get_or l.workers k w).seat.pass ≡ k;
+      done : (k : ℕ) (w : Worker) → k < l.worker-index → Rests (get_or l.workers k w).seat.pass;
+      rest : (k : ℕ) (w : Worker) → l.worker-index ≤ k → k < length l.workers
+          → Leaves board (fill_count l.task.shared.now.survey) (get_or l.workers k w).result (get_or l.workers k w).seat.pass;
+    }

@@ -12,5 +12,4 @@ for_each_mut-requires-sync-F g c =
 
 pub for_each_mut-requires-send-T : goal.for_each_mut-requires-send-T
 for_each_mut-requires-send-T g c κs within =
-    let seat = c.type_bounds.send-D-Seat in
     search (crosses, sendable, worker_send) depth 60 fits 20000

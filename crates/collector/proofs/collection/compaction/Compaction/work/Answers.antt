@@ -10,7 +10,6 @@ use Rattle.collector.proofs.collection.compaction.Compaction.work.Goals as goal
 pub returns-in-Some-clause-fault : goal.returns-in-Some-clause-fault
 returns-in-Some-clause-fault g c =
     let may : ℕ → ℕ → Type 0 = g.G.Gate.may_refuse c.args.gate.now in
-    let may_fail = g.D.Seating.may_fail in
     let survey = c.args.self.now.shared.survey in
     let fault = c.in-Some.fault in
     let workers = c.args.self.now.workers in
@@ -22,15 +21,13 @@ returns-in-Some-clause-fault g c =
     let lowest = c.in-Some.ensures.lowest in
     let met : HasFailed c.as_slice.result.now fault = (lowest.0, lowest.1, lowest.2, lowest.3, lowest.4) in
     let failed = subst (λ ws. HasFailed ws fault) (c.as_slice.ensures.value ∙ front_of workers.len after _ own) met in
-    subst (λ (n : ℕ). IsLostTo may_fail may n survey fault) count
-    (cause_of may_fail (λ r. MayBeRefused (λ k. may k r) (length before)) (fill_count survey) after fault c.work_all.ensures.early failed)
+    subst (λ (n : ℕ). IsLostTo may n survey fault) count
+    (cause_of (λ r. MayBeRefused (λ k. may k r) (length before)) (fill_count survey) after fault c.work_all.ensures.early failed)
 
 pub returns-in-None-clause-stopped : goal.returns-in-None-clause-stopped
-returns-in-None-clause-stopped g c tells fresh =
-    let desk = c.args.self.now.shared.desk in
-    let m = g.D.Seating.moves desk in
+returns-in-None-clause-stopped g c =
+    let board = g.D.HasBoard.keeps c.args.self.now.shared.desk in
     let regions : ℕ = fill_count c.args.self.now.shared.survey in
-    let caller = g.D.Seating.caller in
     let workers = c.args.self.now.workers in
     let before = c.as_mut_slice.result.now in
     let after = c.work_all.new.workers in
@@ -39,6 +36,6 @@ returns-in-None-clause-stopped g c tells fresh =
     let own : workers.len ≡ length after = omega (arith, kept, count) in
     let whole = front_of workers.len after _ own in
     let none : All (λ w. met_fault w.result ≡ None) after = subst (All (λ w. met_fault w.result ≡ None)) (c.as_slice.ensures.value ∙ whole) c.in-None.ensures.none in
-    let begun : AreFresh (callers_of caller before) = subst (λ ws. AreFresh (callers_of caller ws)) (sym c.as_mut_slice.ensures.value) fresh in
-    let stopped : AreStopped m regions caller after = all_stopped m regions caller before after kept (c.work_all.ensures.tidy tells) none begun in
-    subst (AreStopped m regions caller) (sym whole) stopped
+    let begun : AreFresh (callers_of before) = subst (λ ws. AreFresh (callers_of ws)) (sym c.as_mut_slice.ensures.value) c.requires.fresh in
+    let stopped : AreStopped board regions after = all_stopped board regions before after kept c.work_all.ensures.ends none begun in
+    subst (AreStopped board regions) (sym whole) stopped

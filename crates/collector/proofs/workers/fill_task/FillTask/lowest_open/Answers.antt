@@ -1,30 +1,24 @@
-use Rattle.collector.proofs.Lemmas.Rest.{tidy_looked}
+use Rattle.std.proofs.Common.{◌∙◌}
+use Rattle.collector.proofs.Lemmas.Rest.{rest_all, rest_looked}
 use Rattle.collector.proofs.workers.fill_task.FillTask.lowest_open.Goals as goal
 
 pub loop-preserved : goal.loop-preserved
-loop-preserved g c =
-    let caller = g.D.Seating.caller in
-    record {
-      serves = c.look.ensures.seat;
-      tidy = tidy_looked g.D.Seating.tells (caller c.args.worker.now.seat) (caller c.loop.worker.seat) (caller c.look.new.seat) _ _ c.loop.invariant.tidy c.in_ok-look.ensures.gains;
-    }
+loop-preserved g c = record {
+  board = c.look.ensures.entry.board ∙ c.loop.invariant.board;
+  rest = rest_all c.args.worker.now.seat.pass c.loop.worker.seat.pass c.look.new.pass c.loop.invariant.rest (rest_looked _ _ c.loop.worker.seat.pass c.look.new.pass _ _ c.look.ensures.entry c.look.ensures.holds c.loop.invariant.rest.1);
+}
 
-pub returns-in-Open-eq0-clause-tidy : goal.returns-in-Open-eq0-clause-tidy
-returns-in-Open-eq0-clause-tidy g c =
-    let caller = g.D.Seating.caller in
-    tidy_looked g.D.Seating.tells (caller c.args.worker.now.seat) (caller c.loop.worker.seat) (caller c.look.new.seat) _ _ c.loop.invariant.tidy c.in_ok-look.ensures.gains
+pub returns-in-Open-eq0-clause-rest : goal.returns-in-Open-eq0-clause-rest
+returns-in-Open-eq0-clause-rest g c =
+    rest_all c.args.worker.now.seat.pass c.loop.worker.seat.pass c.look.new.pass c.loop.invariant.rest (rest_looked _ _ c.loop.worker.seat.pass c.look.new.pass _ _ c.look.ensures.entry c.look.ensures.holds c.loop.invariant.rest.1)
 
-pub returns-in_default-clause-tidy : goal.returns-in_default-clause-tidy
-returns-in_default-clause-tidy g c =
-    let caller = g.D.Seating.caller in
-    tidy_looked g.D.Seating.tells (caller c.args.worker.now.seat) (caller c.loop.worker.seat) (caller c.look.new.seat) _ _ c.loop.invariant.tidy c.in_ok-look.ensures.gains
+pub returns-in_default-clause-rest : goal.returns-in_default-clause-rest
+returns-in_default-clause-rest g c =
+    rest_all c.args.worker.now.seat.pass c.loop.worker.seat.pass c.look.new.pass c.loop.invariant.rest (rest_looked _ _ c.loop.worker.seat.pass c.look.new.pass _ _ c.look.ensures.entry c.look.ensures.holds c.loop.invariant.rest.1)
 
 pub returns-in_default-2 : goal.returns-in_default-2
-returns-in_default-2 g c =
-    let caller = g.D.Seating.caller in
-    record {
-      seat = c.look.ensures.seat;
-      tidy = tidy_looked g.D.Seating.tells (caller c.args.worker.now.seat) (caller c.loop.worker.seat) (caller c.look.new.seat) _ _ c.loop.invariant.tidy c.in_ok-look.ensures.gains;
-      region = tt;
-      fault = tt;
-    }
+returns-in_default-2 g c = record {
+  seat = c.look.ensures.entry.board ∙ c.loop.invariant.board;
+  rest = rest_all c.args.worker.now.seat.pass c.loop.worker.seat.pass c.look.new.pass c.loop.invariant.rest (rest_looked _ _ c.loop.worker.seat.pass c.look.new.pass _ _ c.look.ensures.entry c.look.ensures.holds c.loop.invariant.rest.1);
+  region = tt;
+}

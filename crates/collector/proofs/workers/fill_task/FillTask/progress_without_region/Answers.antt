@@ -1,12 +1,8 @@
-use Rattle.collector.proofs.Lemmas.Rest.{tidy_poll}
+use Rattle.collector.proofs.Lemmas.Rest.{rest_polled}
 use Rattle.collector.proofs.workers.fill_task.FillTask.progress_without_region.Goals as goal
 
-pub returns-then-branch-clause-tidy : goal.returns-then-branch-clause-tidy
-returns-then-branch-clause-tidy g c =
-    let caller = g.D.Seating.caller in
-    λ t. tidy_poll (caller c.args.worker.now.seat) (caller c.poll.new.seat) _ (c.in_ok-poll.ensures.gains t)
+pub returns-then-poll-clause-rest : goal.returns-then-poll-clause-rest
+returns-then-poll-clause-rest g c = rest_polled _ _ c.args.worker.now.seat.pass c.poll.new.pass _ c.poll.ensures.entry c.poll.ensures.holds c.requires.rest
 
-pub returns-else-branch-clause-tidy : goal.returns-else-branch-clause-tidy
-returns-else-branch-clause-tidy g c =
-    let caller = g.D.Seating.caller in
-    λ t. tidy_poll (caller c.args.worker.now.seat) (caller c.poll.new.seat) _ (c.in_ok-poll.ensures.gains t)
+pub returns-else-poll-clause-rest : goal.returns-else-poll-clause-rest
+returns-else-poll-clause-rest g c = rest_polled _ _ c.args.worker.now.seat.pass c.poll.new.pass _ c.poll.ensures.entry c.poll.ensures.holds c.requires.rest

@@ -1,16 +1,16 @@
-use Rattle.std.proofs.Common.{◌≡◌, ◌+◌, ◌-◌, ◌≤◌, ◌<◌, ℕ, List, length, min, inl, inr, sym, ◌∙◌, ap, subst, arith}
+use Rattle.std.proofs.Common.{◌≡◌, ◌+◌, ◌-◌, ◌≤◌, ◌<◌, ℕ, List, length, min, inl, inr, refl, sym, ◌∙◌, ap, subst, arith}
 use Rattle.std.proofs.lemmas.Bool.{cases_lt}
-use Rattle.object_heap.specs.HeapImage.{HeapImage, HasLiveList, word_at, region_words, start_of, block_of}
+use Rattle.object_heap.specs.HeapImage.{HeapImage, HasLiveList, word_at, region_words, start_of}
 use Rattle.summary.specs.NewAddresses.{prefix_end}
 use Rattle.summary.specs.WordMoves.{slid}
-use Rattle.region_cells.specs.Views.{Writing, source_words}
 use Rattle.fill.specs.WordBlocks.{IsSplitAt, Shows}
 use Rattle.fill.specs.CopiedWords.{copied_word, written_to}
-use Rattle.fill.specs.Targets.{SameTarget, Becomes, IsCopied}
+use Rattle.fill.specs.WrittenWords.{Becomes, IsCopied}
 use Rattle.fill.specs.SourceRegions.{IsNextOtherSource}
-use Rattle.fill.proofs.Lemmas.Targets.{same_target, still_block, written_on, copied_from}
+use Rattle.fill.proofs.Lemmas.WrittenWords.{written_on, copied_from}
 use Rattle.fill.proofs.Lemmas.Slides.{slid-past, slid-monotone, split_copy}
-use Rattle.fill.proofs.Lemmas.WrittenTo.{source_behind, written_to-read, written_to-between, shows_start, length_start}
+use Rattle.fill.proofs.Lemmas.WrittenTo.{source_behind, written_to-read, written_to-between, shows_start, length_start, next_start}
+use Rattle.fill.proofs.Lemmas.Reaching.{written_to-more}
 use Rattle.fill.proofs.region.after_prefix.AfterPrefix.copy_source.Goals as goal
 use Rattle.fill.proofs.region.after_prefix.AfterPrefix.copy_source.Goals.{After-span-read}
 
@@ -31,7 +31,7 @@ module _ (c : After-span-read) where
   next : IsNextOtherSource image d c.requires.next.0 s
   next = c.requires.next.1
 
-  before : IsCopied image d c.requires.next.0 c.args.to c.args.target.now
+  before : IsCopied image d c.requires.next.0 c.args.to c.args.words.now
   before = c.requires.next.2
 
   own : d < c.requires.next.0
@@ -51,21 +51,38 @@ module _ (c : After-span-read) where
   on = written_to-read c.plan_laws.ensures image c.span-read.ensures.valid.live_list d s behind next.read
 
   -- the words that are read
-  read_words : source_words c.args.source.now ≡ block_of image s
-  read_words = ap (λ m. block_of m c.args.source.now.opening.source) c.requires.source.image ∙ ap (block_of image) c.requires.source.region
+  read_shows : Shows (word_at image) c.span-read.result.start c.args.source.now
+  read_shows = subst (λ (n : ℕ). Shows (word_at image) n c.args.source.now) (sym c.span-read.ensures.start)
+      (subst (λ (xs : List ℕ). Shows (word_at image) (start_of image s) xs) (sym c.requires.source) (shows_start image c.span-read.ensures.valid s next.inside))
 
-  read_shows : Shows (word_at image) c.span-read.result.start (source_words c.args.source.now)
-  read_shows = subst (λ (n : ℕ). Shows (word_at image) n (source_words c.args.source.now)) (sym c.span-read.ensures.start)
-      (subst (λ (xs : List ℕ). Shows (word_at image) (start_of image s) xs) (sym read_words) (shows_start image c.span-read.ensures.valid s next.inside))
+  read_long : length c.args.source.now ≡ R
+  read_long = ap length c.requires.source ∙ length_start image c.span-read.ensures.valid s next.inside
 
-  read_long : length (source_words c.args.source.now) ≡ R
-  read_long = ap length read_words ∙ length_start image c.span-read.ensures.valid s next.inside
+  -- how far the region is written once the source is at its end, or the region
+  abbrev IsWhole : ℕ → Type 0
+  IsWhole to = to ≡ min c.args.self.now.site.span.end (slid image c.span-read.result.end)
 
-  -- once the source or the region is at its end
-  reached : (to : ℕ) (after : Writing) → SameTarget c.args.target.now after → IsSplitAt (copied_word image) (word_at image) c.args.self.now.site.span.start after.words to
-      → to ≡ min c.args.self.now.site.span.end (slid image c.span-read.result.end) → Becomes (IsCopied image d (s + 1) to) c.args.target.now after
-  reached to after same split end = copied_from image d s c.args.self.now.site.span.start to c.args.target.now after c.args.self.now.site.start before.block same split
-      (end ∙ ap (λ m. min m (slid image c.span-read.result.end)) c.args.self.now.site.end ∙ ap (λ m. min (start_of image d + R) (slid image m)) c.span-read.ensures.end ∙ sym on.2)
+  all_read : (from to : ℕ) → from ≤ c.span-read.result.end → c.span-read.result.end ≤ from → to ≡ slid image from → to ≤ c.args.self.now.site.span.end → IsWhole to
+  all_read from to inside end place high =
+      let last : from ≡ c.span-read.result.end = omega arith in
+      let there : slid image from ≡ slid image c.span-read.result.end = ap (slid image) last in
+      omega arith
+
+  all_written : (from to : ℕ) → prefix_end image ≤ from → from ≤ c.span-read.result.end → to ≡ slid image from → to ≤ c.args.self.now.site.span.end → c.args.self.now.site.span.end ≤ to → IsWhole to
+  all_written from to low inside place high end = let up = slid-monotone c.plan_laws.ensures image from c.span-read.result.end low inside in omega arith
+
+  whole : (to : ℕ) → IsWhole to → to ≡ written_to image (start_of image d) (start_of image s + R)
+  whole to end =
+      end ∙ ap (λ m. min m (slid image c.span-read.result.end)) c.args.self.now.site.end ∙ ap (λ m. min (start_of image d + R) (slid image m)) c.span-read.ensures.end ∙ sym on.2
+
+  reached : (to : ℕ) (after : List ℕ) → length after ≡ length c.args.words.now → IsSplitAt (copied_word image) (word_at image) c.args.self.now.site.span.start after to → IsWhole to
+      → Becomes (IsCopied image d (s + 1) to) c.args.words.now after
+  reached to after same split end = copied_from image d s c.args.self.now.site.span.start to c.args.words.now after c.args.self.now.site.start before.block same split (whole to end)
+
+  more : (to : ℕ) → IsWhole to → (c.args.to ≤ to) × (to - c.args.to < 4294967296)
+  more to end =
+      written_to-more c.plan_laws.ensures image c.span-read.ensures.valid d c.requires.next.0 (s + 1) c.args.to to c.args.self.now.site.inside c.args.self.now.after_prefix (omega (arith, own)) (omega (arith, ordered)) before.place
+      (whole to end ∙ ap (written_to image (start_of image d)) (next_start image s (s + 1) refl))
 
 pub span-read-requires : goal.span-read-requires
 span-read-requires c = c.requires.next.1.inside
@@ -103,26 +120,26 @@ loop-from-init c =
       place = sym from.place;
       low = omega (arith, place at, site.start);
       high = omega (arith, place at, site.start, site.end);
-      split = subst (λ (n : ℕ). IsSplitAt (copied_word image) (word_at image) n c.args.target.now.words c.args.to) (sym site.start) (before at).split;
-      same = same_target c.args.target.now;
+      split = subst (λ (n : ℕ). IsSplitAt (copied_word image) (word_at image) n c.args.words.now c.args.to) (sym site.start) (before at).split;
+      same_length = refl;
     }
 
-pub copy_into-requires-clause-source : goal.copy_into-requires-clause-source
-copy_into-requires-clause-source c =
+pub copy_from-requires-clause-source : goal.copy_from-requires-clause-source
+copy_from-requires-clause-source c =
     let r = c.next_run-run.ensures in
-    let same : region_words c.args.source.now.image ≡ region_words c.args.self.now.site.guide.now = ap region_words c.requires.source.image in
+    let at = (goal.at.copy_from-requires-clause-source c).After-span-read in
     let n : c.min-n.result ≤ c.next_run-run.result.end - c.next_run-run.result.begin = omega arith in
     let up = r.within in
     let far = r.after in
     let low = c.loop-from.invariant.after in
-    omega (arith, c.span-read.ensures.start, c.span-read.ensures.end)
+    omega (arith, read_long at, c.span-read.ensures.start, c.span-read.ensures.end)
 
-pub copy_into-requires-clause-room : goal.copy_into-requires-clause-room
-copy_into-requires-clause-room c =
-    let at = (goal.at.copy_into-requires-clause-room c).After-span-read in
+pub copy_from-requires-clause-room : goal.copy_from-requires-clause-room
+copy_from-requires-clause-room c =
+    let at = (goal.at.copy_from-requires-clause-room c).After-span-read in
     let site = c.args.self.now.site in
     let h = c.loop-from.invariant in
-    let same : region_words c.loop-from.target.image ≡ region_words site.guide.now = ap region_words (h.same.image ∙ (before at).block.image) in
+    let now : length c.loop-from.words ≡ region_words site.guide.now = h.same_length ∙ (before at).block in
     let n : c.min-n.result ≤ site.span.end - c.loop-from.to = omega arith in
     omega (arith, h.low, h.high, site.start, site.end)
 
@@ -143,11 +160,10 @@ loop-from-preserved c =
     let far : c.loop-from.from ≤ a = r.after in
     let live = λ (q : ℕ) (l : a ≤ q) (m : q < a + n). (let below : q < c.next_run-run.result.end = omega arith in r.live q l below) in
     let past = slid-past c.plan_laws.ensures image c.loop-from.from a n c.loop-from.to h.after_prefix far h.place r.dead live in
-    let now = still_block image c.args.target.now c.loop-from.target (before at).block h.same in
-    let written = written_on image (copied_word image) (word_at image) site.span.start (c.loop-from.to + n) c.args.target.now c.loop-from.target c.copy_into.new.target _ (before at).block h.same
-    c.copy_into.ensures.value c.copy_into.ensures.length
-    (split_copy c.plan_laws.ensures image sound site.span.start c.loop-from.target.words c.span-read.result.start (source_words c.args.source.now) a n c.loop-from.to h.split (read_shows at) (omega arith) past.0 live (omega arith)
-    (omega (arith, now.long, site.start, site.end)) (omega arith) (omega (arith, read_long at, c.span-read.ensures.start, c.span-read.ensures.end))) in
+    let now = h.same_length ∙ (before at).block in
+    let written = written_on (copied_word image) (word_at image) site.span.start (c.loop-from.to + n) c.args.words.now c.loop-from.words c.copy_from.new.self _ h.same_length c.copy_from.ensures.value c.copy_from.ensures.same_length
+    (split_copy c.plan_laws.ensures image sound site.span.start c.loop-from.words c.span-read.result.start c.args.source.now a n c.loop-from.to h.split (read_shows at) (omega arith) past.0 live (omega arith)
+    (omega (arith, now, site.start, site.end)) (omega arith) (omega (arith, read_long at, c.span-read.ensures.start, c.span-read.ensures.end))) in
     record {
       after = omega arith;
       inside = omega arith;
@@ -156,7 +172,7 @@ loop-from-preserved c =
       low = omega arith;
       high = omega arith;
       split = written.1;
-      same = written.0;
+      same_length = written.0;
     }
 
 pub loop-from-smaller : goal.loop-from-smaller
@@ -171,16 +187,26 @@ loop-from-smaller c =
       | inr more ↦ omega arith
     ]
 
-pub returns-after-loop-from : goal.returns-after-loop-from
-returns-after-loop-from c =
+pub returns-after-loop-from-clause-copied : goal.returns-after-loop-from-clause-copied
+returns-after-loop-from-clause-copied c =
+    let read = (goal.at.returns-after-loop-from-clause-copied c).After-span-read in
     let h = c.loop-from.invariant in
-    let image : HeapImage = c.args.self.now.site.guide.now in
-    let last : c.loop-from.from ≡ c.span-read.result.end = omega (arith, h.inside) in
-    let there : slid image c.loop-from.from ≡ slid image c.span-read.result.end = ap (slid image) last in
-    reached (goal.at.returns-after-loop-from c).After-span-read c.loop-from.to c.loop-from.target h.same h.split (omega (arith, h.place, h.high))
+    reached read c.loop-from.to c.loop-from.words h.same_length h.split (all_read read c.loop-from.from c.loop-from.to h.inside (omega arith) h.place h.high)
 
-pub returns-else-to-write : goal.returns-else-to-write
-returns-else-to-write c =
+pub returns-after-loop-from-clause-more : goal.returns-after-loop-from-clause-more
+returns-after-loop-from-clause-more c =
+    let read = (goal.at.returns-after-loop-from-clause-more c).After-span-read in
     let h = c.loop-from.invariant in
-    let up = slid-monotone c.plan_laws.ensures c.args.self.now.site.guide.now c.loop-from.from c.span-read.result.end h.after_prefix h.inside in
-    reached (goal.at.returns-else-to-write c).After-span-read c.loop-from.to c.loop-from.target h.same h.split (omega (arith, h.place, h.high))
+    more read c.loop-from.to (all_read read c.loop-from.from c.loop-from.to h.inside (omega arith) h.place h.high)
+
+pub returns-else-to-write-clause-copied : goal.returns-else-to-write-clause-copied
+returns-else-to-write-clause-copied c =
+    let read = (goal.at.returns-else-to-write-clause-copied c).After-span-read in
+    let h = c.loop-from.invariant in
+    reached read c.loop-from.to c.loop-from.words h.same_length h.split (all_written read c.loop-from.from c.loop-from.to h.after_prefix h.inside h.place h.high (omega arith))
+
+pub returns-else-to-write-clause-more : goal.returns-else-to-write-clause-more
+returns-else-to-write-clause-more c =
+    let read = (goal.at.returns-else-to-write-clause-more c).After-span-read in
+    let h = c.loop-from.invariant in
+    more read c.loop-from.to (all_written read c.loop-from.from c.loop-from.to h.after_prefix h.inside h.place h.high (omega arith))

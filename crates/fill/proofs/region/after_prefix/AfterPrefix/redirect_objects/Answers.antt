@@ -1,4 +1,4 @@
-use Rattle.std.proofs.Common.{◌≡◌, ◌+◌, ◌-◌, ◌≤◌, ◌<◌, ℕ, length, true, sym, ◌∙◌, subst, arith}
+use Rattle.std.proofs.Common.{◌≡◌, ◌+◌, ◌-◌, ◌≤◌, ◌<◌, ℕ, length, true, refl, sym, ◌∙◌, subst, arith}
 use Rattle.object_heap.specs.HeapImage.{HeapImage, start_of, region_words, region_count}
 use Rattle.summary.specs.NewAddresses.{prefix_end, new_top}
 use Rattle.summary.specs.WordMoves.{slid, reads}
@@ -6,7 +6,6 @@ use Rattle.summary.specs.Compaction.{moved_word}
 use Rattle.fill.specs.WordBlocks.{IsSplitAt, Shows}
 use Rattle.fill.specs.CopiedWords.{copied_word}
 use Rattle.fill.specs.Objects.{IsBetween}
-use Rattle.fill.proofs.Lemmas.Targets.{same_target, still_block}
 use Rattle.fill.proofs.Lemmas.WrittenTo.{source_place, source_behind, shows_moved, written_to-last, next_start, reached-last}
 use Rattle.fill.proofs.Lemmas.Redirects.{between-object}
 use Rattle.fill.proofs.Lemmas.Steps.{next-place, region-first, region-none}
@@ -31,10 +30,10 @@ module _ (c : After-source-s) where
   behind = source_behind image c.image_is_valid.ensures d s ((on).1) c.args.self.now.after_prefix
 
   -- all words for the region are copied
-  shows : Shows (copied_word image) (start_of image d) c.args.target.now.words
+  shows : Shows (copied_word image) (start_of image d) c.args.words.now
   shows =
       let r = c.requires in
-      written_to-last c.plan_laws.ensures image c.image_is_valid.ensures d c.args.from c.args.to c.args.target.now.words c.args.self.now.after_prefix r.own r.within r.last r.copied.place r.copied.block.long r.copied.split
+      written_to-last c.plan_laws.ensures image c.image_is_valid.ensures d c.args.from c.args.to c.args.words.now c.args.self.now.after_prefix r.own r.within r.last r.copied.place r.copied.block r.copied.split
 
 pub source-s-requires-clause-region : goal.source-s-requires-clause-region
 source-s-requires-clause-region c = record { inside = c.args.self.now.site.inside; after_prefix = c.args.self.now.after_prefix }
@@ -73,8 +72,8 @@ redirect_row-requires-clause-between c =
     let image : HeapImage = c.args.self.now.site.guide.now in
     subst (IsBetween image) (sym c.new_address.ensures.value) (between-object c.plan_laws.ensures image c.image_is_valid.ensures.live_list c.in-Some.a c.in-Some.ensures.first.object)
 
-pub redirect_row-requires-clause-target : goal.redirect_row-requires-clause-target
-redirect_row-requires-clause-target c = c.requires.copied.block
+pub redirect_row-requires-clause-block : goal.redirect_row-requires-clause-block
+redirect_row-requires-clause-block c = c.requires.copied.block
 
 pub redirect_row-requires-clause-split : goal.redirect_row-requires-clause-split
 redirect_row-requires-clause-split c =
@@ -82,18 +81,18 @@ redirect_row-requires-clause-split c =
     let site = c.args.self.now.site in
     let image : HeapImage = site.guide.now in
     let first : slid image c.first_from-first.result ≡ start_of image site.region = c.first_from-first.ensures.place ∙ site.start in
-    subst (λ (n : ℕ). IsSplitAt (moved_word image) (copied_word image) n c.args.target.now.words c.new_address.result) (sym site.start)
-    (subst (IsSplitAt (moved_word image) (copied_word image) (start_of image site.region) c.args.target.now.words) (sym c.new_address.ensures.value)
-    (region-first c.plan_laws.ensures image c.image_is_valid.ensures.live_list site.region c.first_from-first.result c.in-Some.a c.args.target.now.words first c.in-Some.ensures.first (shows at)))
+    subst (λ (n : ℕ). IsSplitAt (moved_word image) (copied_word image) n c.args.words.now c.new_address.result) (sym site.start)
+    (subst (IsSplitAt (moved_word image) (copied_word image) (start_of image site.region) c.args.words.now) (sym c.new_address.ensures.value)
+    (region-first c.plan_laws.ensures image c.image_is_valid.ensures.live_list site.region c.first_from-first.result c.in-Some.a c.args.words.now first c.in-Some.ensures.first (shows at)))
 
 pub returns-in-Some : goal.returns-in-Some
 returns-in-Some c =
     let site = c.args.self.now.site in
     let image : HeapImage = site.guide.now in
     let e = c.redirect_row.ensures in
-    let block = still_block image c.args.target.now c.redirect_row.new.target c.requires.copied.block e.same in
-    let moved = subst (λ (n : ℕ). Shows (moved_word image) n c.redirect_row.new.target.words) site.start e.now in
-    record { same = e.same; now = shows_moved image c.image_is_valid.ensures site.region c.redirect_row.new.target.words block.long moved }
+    let block = e.same_length ∙ c.requires.copied.block in
+    let moved = subst (λ (n : ℕ). Shows (moved_word image) n c.redirect_row.new.words) site.start e.now in
+    record { same_length = e.same_length; now = shows_moved image c.image_is_valid.ensures site.region c.redirect_row.new.words block moved }
 
 pub returns-in_default : goal.returns-in_default
 returns-in_default c =
@@ -103,15 +102,15 @@ returns-in_default c =
     let d : ℕ = site.region in
     let valid = c.image_is_valid.ensures in
     let r = c.requires in
-    let long = r.copied.block.long in
+    let long = r.copied.block in
     let first : slid image c.first_from-first.result ≡ start_of image d = c.first_from-first.ensures.place ∙ site.start in
     let own : d < c.args.from = r.own in
     let one : c.args.from ≡ c.args.from - 1 + 1 = omega arith in
     let end : start_of image c.args.from ≡ c.span-last.result.end = sym (c.span-last.ensures.end ∙ next_start image (c.args.from - 1) c.args.from one) in
-    let reached = λ (p : ℕ) (l : start_of image d ≤ p) (m : p < start_of image d + length c.args.target.now.words) (n : p < new_top image).
+    let reached = λ (p : ℕ) (l : start_of image d ≤ p) (m : p < start_of image d + length c.args.words.now) (n : p < new_top image).
     subst (λ (to : ℕ). p < slid image to) end (reached-last c.plan_laws.ensures image valid d c.args.from p c.args.self.now.after_prefix r.own r.within r.last l (omega (arith, m, long)) n) in
     record {
-      same = same_target c.args.target.now;
-      now = shows_moved image valid d c.args.target.now.words long
-          (region-none c.plan_laws.ensures image valid.live_list d c.first_from-first.result c.span-last.result.end c.args.target.now.words first c.in_default.ensures.first reached (shows at));
+      same_length = refl;
+      now = shows_moved image valid d c.args.words.now long
+          (region-none c.plan_laws.ensures image valid.live_list d c.first_from-first.result c.span-last.result.end c.args.words.now first c.in_default.ensures.first reached (shows at));
     }

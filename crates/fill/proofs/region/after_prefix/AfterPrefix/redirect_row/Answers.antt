@@ -1,12 +1,11 @@
-use Rattle.std.proofs.Common.{◌≡◌, ◌+◌, ◌-◌, ◌≤◌, ◌<◌, ℕ, length, sym, ◌∙◌, ap, subst, arith, max, min}
-use Rattle.object_heap.specs.HeapImage.{HeapImage, HasLiveList, region_words, size_at}
+use Rattle.std.proofs.Common.{◌≡◌, ◌+◌, ◌-◌, ◌≤◌, ◌<◌, ℕ, length, refl, sym, ◌∙◌, ap, subst, arith, max, min}
+use Rattle.object_heap.specs.HeapImage.{HeapImage, HasLiveList, size_at}
 use Rattle.summary.specs.NewAddresses.{new_address, new_top}
 use Rattle.summary.specs.Compaction.{moved_word}
 use Rattle.fill.specs.WordBlocks.{IsSplitAt}
-use Rattle.fill.specs.Targets.{IsBlockOf}
+use Rattle.fill.specs.WrittenWords.{IsBlockOf}
 use Rattle.fill.specs.CopiedWords.{copied_word}
 use Rattle.fill.specs.Objects.{IsMovedTo, IsBetween}
-use Rattle.fill.proofs.Lemmas.Targets.{same_target, target_over, still_block}
 use Rattle.fill.proofs.Lemmas.Writing.{split_skip, split_all}
 use Rattle.fill.proofs.Lemmas.Redirects.{object_size, object-at, between-end, moved-top, deferred-not, deferred-over}
 use Rattle.fill.proofs.Lemmas.Steps.{header-size, object-late}
@@ -40,17 +39,17 @@ module _ (c : After-from) where
       let top : c.new_top.result ≡ new_top image = c.new_top.ensures ∙ ap new_top c.plan.ensures in
       (omega arith, omega arith)
 
-  block : IsBlockOf image c.loop-at.target
-  block = still_block image c.args.target.now c.loop-at.target c.requires.target c.loop-at.invariant.same
+  block : IsBlockOf image c.loop-at.words
+  block = c.loop-at.invariant.same_length ∙ c.requires.block
 
-  whole : end ≡ start + length c.loop-at.target.words
-  whole = omega (arith, block.long, c.args.self.now.site.start, c.args.self.now.site.end)
+  whole : end ≡ start + length c.loop-at.words
+  whole = omega (arith, block, c.args.self.now.site.start, c.args.self.now.site.end)
 
   found : (a : ℕ) × IsMovedTo image at a
   found = object-at c.plan_laws.ensures image sound at (omega (arith, low, c.args.self.now.site.start, c.args.self.now.after_prefix)) below.0 c.loop-at.invariant.between
 
   size_is : (a : ℕ) → IsMovedTo image at a → c.from.result ≡ size_at image a
-  size_is a on = header-size c.plan_laws.ensures image sound c.image_is_own.ensures a start at c.get-header.result c.from.result c.loop-at.target.words on low (omega (arith, whole, below.1)) c.loop-at.invariant.split c.get-header.ensures (c.from.ensures ∙ c.size.ensures)
+  size_is a on = header-size c.plan_laws.ensures image sound c.image_is_own.ensures a start at c.get-header.result c.from.result c.loop-at.words on low (omega (arith, whole, below.1)) c.loop-at.invariant.split c.get-header.ensures (c.from.ensures ∙ c.size.ensures)
 
   behind_object : new_address image found.0 + size_at image found.0 ≡ at + c.from.result
   behind_object = let goes = found.1.place in let size = size_is found.0 found.1 in omega arith
@@ -59,7 +58,7 @@ module _ (c : After-from) where
   still_between = subst (IsBetween image) behind_object (between-end c.plan_laws.ensures image sound found.0 found.1.object)
 
 pub loop-at-init : goal.loop-at-init
-loop-at-init c = record { low = c.requires.low; between = c.requires.between; split = c.requires.split; same = same_target c.args.target.now }
+loop-at-init c = record { low = c.requires.low; between = c.requires.between; split = c.requires.split; same_length = refl }
 
 pub overflow_sub-at : goal.overflow_sub-at
 overflow_sub-at c = c.loop-at.invariant.low
@@ -67,11 +66,10 @@ overflow_sub-at c = c.loop-at.invariant.low
 pub get-header-requires : goal.get-header-requires
 get-header-requires c =
     let site = c.args.self.now.site in
-    let block = still_block site.guide.now c.args.target.now c.loop-at.target c.requires.target c.loop-at.invariant.same in
-    let same : region_words c.loop-at.target.image ≡ region_words site.guide.now = ap region_words block.image in
+    let block = c.loop-at.invariant.same_length ∙ c.requires.block in
     let limit : c.min-limit.result ≡ min c.new_top.result site.span.end = c.min-limit.ensures in
     let below : c.loop-at.at < c.min-limit.result = c.loop-at-test.true in
-    omega (arith, c.loop-at.invariant.low, site.start, site.end)
+    omega (arith, c.loop-at.invariant.low, block, site.start, site.end)
 
 pub redirect_object-requires-clause-object : goal.redirect_object-requires-clause-object
 redirect_object-requires-clause-object c =
@@ -87,8 +85,8 @@ redirect_object-requires-clause-object c =
       high = λ a on. (let size : c.from.result ≡ size_at site.guide.now a = size_is read a on in omega arith);
     }
 
-pub redirect_object-requires-clause-target : goal.redirect_object-requires-clause-target
-redirect_object-requires-clause-target c = block (goal.at.redirect_object-requires-clause-target c).After-from
+pub redirect_object-requires-clause-block : goal.redirect_object-requires-clause-block
+redirect_object-requires-clause-block c = block (goal.at.redirect_object-requires-clause-block c).After-from
 
 pub redirect_object-requires-clause-low : goal.redirect_object-requires-clause-low
 redirect_object-requires-clause-low c = c.loop-at.invariant.low
@@ -117,8 +115,8 @@ loop-at-preserved-then-next-span c =
     record {
       low = omega (arith, h.low);
       between = still_between read;
-      split = subst (λ (n : ℕ). IsSplitAt (moved_word site.guide.now) (copied_word site.guide.now) site.span.start c.redirect_object.new.target.words (c.loop-at.at + n)) (sym size) (e.now (found read).0 (found read).1);
-      same = target_over c.args.target.now c.loop-at.target c.redirect_object.new.target h.same e.same;
+      split = subst (λ (n : ℕ). IsSplitAt (moved_word site.guide.now) (copied_word site.guide.now) site.span.start c.redirect_object.new.words (c.loop-at.at + n)) (sym size) (e.now (found read).0 (found read).1);
+      same_length = e.same_length ∙ h.same_length;
     }
 
 pub loop-at-preserved : goal.loop-at-preserved
@@ -138,8 +136,8 @@ loop-at-preserved c =
     record {
       low = omega (arith, h.low);
       between = still_between read;
-      split = subst (λ (n : ℕ). IsSplitAt (moved_word image) (copied_word image) site.span.start c.loop-at.target.words (at + n)) (sym size) (object-late c.plan_laws.ensures image (sound read) a site.span.start at c.loop-at.target.words on.object late goes h.split);
-      same = h.same;
+      split = subst (λ (n : ℕ). IsSplitAt (moved_word image) (copied_word image) site.span.start c.loop-at.words (at + n)) (sym size) (object-late c.plan_laws.ensures image (sound read) a site.span.start at c.loop-at.words on.object late goes h.split);
+      same_length = h.same_length;
     }
 
 pub returns : goal.returns
@@ -148,11 +146,11 @@ returns c =
     let image : HeapImage = site.guide.now in
     let sound : HasLiveList image = c.image_is_valid.ensures.live_list in
     let h = c.loop-at.invariant in
-    let block = still_block image c.args.target.now c.loop-at.target c.requires.target h.same in
+    let block = h.same_length ∙ c.requires.block in
     let at : ℕ = c.loop-at.at in
     let limit : c.min-limit.result ≡ min c.new_top.result site.span.end = c.min-limit.ensures in
     let past : c.min-limit.result ≤ at = c.loop-at-test.false in
     let top : c.new_top.result ≡ new_top image = c.new_top.ensures ∙ ap new_top c.plan.ensures in
-    let end : ℕ = max at (site.span.start + length c.loop-at.target.words) in
-    let rest = split_skip (moved_word image) (copied_word image) site.span.start c.loop-at.target.words at end h.split (omega arith) (λ p l less k. moved-top c.plan_laws.ensures image sound p (omega (arith, block.long, site.start, site.end))) in
-    record { same = h.same; now = split_all (moved_word image) (copied_word image) site.span.start c.loop-at.target.words end rest (omega arith) }
+    let end : ℕ = max at (site.span.start + length c.loop-at.words) in
+    let rest = split_skip (moved_word image) (copied_word image) site.span.start c.loop-at.words at end h.split (omega arith) (λ p l less k. moved-top c.plan_laws.ensures image sound p (omega (arith, block, site.start, site.end))) in
+    record { same_length = h.same_length; now = split_all (moved_word image) (copied_word image) site.span.start c.loop-at.words end rest (omega arith) }

@@ -1,10 +1,10 @@
-use Rattle.std.proofs.Common.{◌≡◌, ◌+◌, ◌-◌, ◌≤◌, ◌<◌, ℕ, List, min, true, false, sym, ◌∙◌, ap, subst, arith}
+use Rattle.std.proofs.Common.{◌≡◌, ◌+◌, ◌-◌, ◌≤◌, ◌<◌, ℕ, List, length, min, true, false, refl, sym, ◌∙◌, ap, subst, arith}
 use Rattle.object_heap.specs.HeapImage.{HeapImage, HasLiveList, word_at, region_words, start_of}
 use Rattle.summary.specs.WordMoves.{slid, reads}
 use Rattle.fill.specs.WordBlocks.{IsSplitAt, Shows}
 use Rattle.fill.specs.CopiedWords.{copied_word, written_to}
-use Rattle.fill.specs.Targets.{IsBlockOf}
-use Rattle.fill.proofs.Lemmas.Targets.{same_target, still_block, unwritten_block, written_on, copied_from}
+use Rattle.fill.specs.WrittenWords.{IsBlockOf}
+use Rattle.fill.proofs.Lemmas.WrittenWords.{unwritten_block, written_on, copied_from}
 use Rattle.fill.proofs.Lemmas.Slides.{slid-past, split_slide}
 use Rattle.fill.proofs.Lemmas.WrittenTo.{region_fits, shows_start, written_to-own, written_to-read, written_to-skip}
 use Rattle.fill.proofs.Lemmas.Writing.{split_none}
@@ -23,14 +23,14 @@ module _ (c : After-image_is_valid) where
   start = c.args.self.now.site.span.start
 
   abbrev words : List ℕ
-  words = c.args.target.now.words
+  words = c.args.words.now
 
-  block : IsBlockOf image c.args.target.now
-  block = unwritten_block image d c.args.target.now c.image_is_valid.ensures c.args.self.now.site.inside c.requires
+  block : IsBlockOf image c.args.words.now
+  block = unwritten_block image d c.args.words.now c.image_is_valid.ensures c.args.self.now.site.inside c.requires
 
   shows : Shows (word_at image) start words
   shows = subst (λ (n : ℕ). Shows (word_at image) n words) (sym c.args.self.now.site.start)
-      (subst (λ (xs : List ℕ). Shows (word_at image) (start_of image d) xs) (sym c.requires.words) (shows_start image c.image_is_valid.ensures d c.args.self.now.site.inside))
+      (subst (λ (xs : List ℕ). Shows (word_at image) (start_of image d) xs) (sym c.requires) (shows_start image c.image_is_valid.ensures d c.args.self.now.site.inside))
 
   split : IsSplitAt (copied_word image) (word_at image) start words start
   split = split_none (copied_word image) (word_at image) start words shows
@@ -45,7 +45,7 @@ returns-then-not-reads_itself c =
     let d : ℕ = site.region in
     let behind = c.args.self.now.after_prefix in
     let unread : reads image d d ≡ false = sym c.reads_itself.ensures ∙ c.if-not-reads_itself.true in
-    copied_from image d d site.span.start site.span.start c.args.target.now c.args.target.now site.start (block at) (same_target c.args.target.now) (split at)
+    copied_from image d d site.span.start site.span.start c.args.words.now c.args.words.now site.start (block at) (refl) (split at)
     (site.start ∙ sym (written_to-own c.plan_laws.ensures image sound d) ∙ written_to-skip c.plan_laws.ensures image sound d d behind behind (region_fits image valid d site.inside) unread)
 
 pub first_from-from-requires-clause-region : goal.first_from-from-requires-clause-region
@@ -82,7 +82,7 @@ loop-from-init c =
       place = sym from.place;
       low = omega arith;
       split = split at;
-      same = same_target c.args.target.now;
+      same_length = refl;
     }
 
 pub slide-requires-clause-downward : goal.slide-requires-clause-downward
@@ -93,12 +93,13 @@ slide-requires-clause-downward c =
     let h : c.loop-from.to ≡ slid image c.loop-from.from = c.loop-from.invariant.place in
     omega arith
 
-pub slide-requires-clause-inside : goal.slide-requires-clause-inside
-slide-requires-clause-inside c =
+pub slide-requires-clause-source : goal.slide-requires-clause-source
+slide-requires-clause-source c =
+    let at = (goal.at.slide-requires-clause-source c).After-image_is_valid in
     let site = c.args.self.now.site in
     let h = c.loop-from.invariant in
     let r = c.next_run-run.ensures in
-    let same : region_words c.loop-from.target.image ≡ region_words site.guide.now = ap region_words (h.same.image ∙ c.requires.image) in
+    let now : length c.loop-from.words ≡ region_words site.guide.now = h.same_length ∙ block at in
     let up : c.next_run-run.result.end ≤ site.span.end = r.within in
     let on : c.next_run-run.result.begin ≤ c.next_run-run.result.end = r.ordered in
     let far : c.loop-from.from ≤ c.next_run-run.result.begin = r.after in
@@ -121,10 +122,9 @@ loop-from-preserved c =
     let whole : a + n ≡ c.next_run-run.result.end = omega arith in
     let past = slid-past c.plan_laws.ensures image c.loop-from.from a n c.loop-from.to h.after_prefix far h.place r.dead live in
     let down = c.plan_laws.ensures.slid-le image a in
-    let now = still_block image c.args.target.now c.loop-from.target (block at) h.same in
-    let written = written_on image (copied_word image) (word_at image) site.span.start (c.loop-from.to + n) c.args.target.now c.loop-from.target c.slide.new.self _ (block at) h.same
-    c.slide.ensures.value c.slide.ensures.length
-    (split_slide c.plan_laws.ensures image sound site.span.start c.loop-from.target.words a n c.loop-from.to h.split (omega arith) past.0 live (omega arith) (omega (arith, now.long, site.start, site.end))) in
+    let now = h.same_length ∙ (block at) in
+    let written = written_on (copied_word image) (word_at image) site.span.start (c.loop-from.to + n) c.args.words.now c.loop-from.words c.slide.new.self _ h.same_length c.slide.ensures.value c.slide.ensures.same_length
+    (split_slide c.plan_laws.ensures image sound site.span.start c.loop-from.words a n c.loop-from.to h.split (omega arith) past.0 live (omega arith) (omega (arith, now, site.start, site.end))) in
     record {
       after = omega arith;
       inside = omega arith;
@@ -132,7 +132,7 @@ loop-from-preserved c =
       place = past.1 ∙ ap (slid image) whole;
       low = omega arith;
       split = written.1;
-      same = written.0;
+      same_length = written.0;
     }
 
 pub returns : goal.returns
@@ -151,4 +151,4 @@ returns c =
     let last : c.loop-from.from ≡ start_of image d + region_words image = omega (arith, h.inside, site.end) in
     let end : c.loop-from.to ≡ slid image (start_of image d + region_words image) = h.place ∙ ap (slid image) last in
     let whole : c.loop-from.to ≡ written_to image (start_of image d) (start_of image d + region_words image) = omega arith in
-    copied_from image d d site.span.start c.loop-from.to c.args.target.now c.loop-from.target site.start (block at) h.same h.split whole
+    copied_from image d d site.span.start c.loop-from.to c.args.words.now c.loop-from.words site.start (block at) h.same_length h.split whole

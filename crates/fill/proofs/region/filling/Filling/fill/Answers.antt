@@ -1,181 +1,207 @@
-use Rattle.std.proofs.Common.{◌≡◌, ℕ, ◌+◌, ◌^◌, ◌<◌, ◌≤◌, false, [], refl, sym, ap, ◌∙◌, subst, arith}
+use Rattle.std.proofs.Common.{◌≡◌, ℕ, ◌+◌, ◌^◌, ◌<◌, ◌≤◌, true, false, [], refl, sym, ap, ◌∙◌, subst, arith}
 use Rattle.std.proofs.lemmas.Nat.{pow_below}
-use Rattle.std.proofs.lemmas.Result.{on_ok_weaker}
-use Rattle.object_heap.specs.HeapImage.{HeapImage, IsValid, region_words, region_count}
+use Rattle.std.specs.Prelude.{◌==◌, ◌&&◌, not}
+use Rattle.object_heap.specs.HeapImage.{HeapImage, IsValid, region_words, region_count, block_of}
 use Rattle.summary.specs.WordMoves.{reads as image_reads}
 use Rattle.scheduler.specs.declared.event.Event.{Event}
 use Rattle.scheduler.specs.declared.event.Event.TheVariants.{Drain}
 use Rattle.scheduler.specs.MoveTable.{MoveTable, IsMoveTable, reads}
 use Rattle.scheduler.specs.MoveTable.{region_count as table_regions}
 use Rattle.scheduler.specs.ImageMoves.{image_table}
-use Rattle.claim_board.specs.Callers.{Gains}
+use Rattle.claim_board.specs.Boards.{caller}
+use Rattle.claim_board.specs.RegionBoards.{moves as moves_of, worker_count, original_words}
+use Rattle.scheduler.specs.State.{is_pending}
+use Rattle.claim_board.specs.Callers.{Caller, Gains, own}
 use Rattle.claim_board.specs.Drains.{reply_of}
-use Rattle.claim_board.specs.Tickets.{IsTicketOf}
+use Rattle.claim_board.specs.declared.tokens.ticket.Ticket.{Ticket}
+use Rattle.claim_board.specs.Tickets.{IsTicketOf, IsOpeningOf, ticket_board, ticket_claimant}
 use Rattle.fill.specs.declared.region.site.Site.{Site}
-use Rattle.fill.specs.Targets.{Becomes, IsUnwritten, IsCopied, IsMoved}
+use Rattle.fill.specs.WrittenWords.{Becomes, IsUnwritten, IsCopied}
+use Rattle.fill.specs.SourceRegions.{IsNextOtherSource}
 use Rattle.fill.specs.SourceDrains.{HasDrained, ReportsLast, other_sources_below}
-use Rattle.fill.proofs.Lemmas.Targets.{target_over}
 use Rattle.fill.proofs.Lemmas.Draining.{undrained, opened_source, skipped_sources, unread_above, last_sources_past, drained_more, drained_all}
 use Rattle.fill.proofs.region.filling.Filling.fill.Goals as goal
-use Rattle.fill.proofs.region.filling.Filling.fill.Goals.{After-slide_own-to}
+use Rattle.fill.proofs.region.filling.Filling.fill.Goals.{After-slide_own-to, In-Some}
 
 -- the own words are written
-own_copied : (g : _) (c : After-slide_own-to g) → Becomes (IsCopied c.args.self.now.site.guide.now c.args.self.now.site.region (c.args.self.now.site.region + 1) c.slide_own-to.result) c.args.target.now c.slide_own-to.new.target
-own_copied g c = subst (λ (s : Site). Becomes (IsCopied s.guide.now s.region (s.region + 1) c.slide_own-to.result) c.args.target.now c.slide_own-to.new.target) c.after_prefix-place.ensures c.slide_own-to.ensures
+own_copied : (g : _) (c : After-slide_own-to g) → Becomes (IsCopied c.args.self.now.site.guide.now c.args.self.now.site.region (c.args.self.now.site.region + 1) c.slide_own-to.result) c.args.words.now c.slide_own-to.new.words
+own_copied g c = subst (λ (s : Site). Becomes (IsCopied s.guide.now s.region (s.region + 1) c.slide_own-to.result) c.args.words.now c.slide_own-to.new.words) c.after_prefix-place.ensures c.slide_own-to.ensures
 
 pub after_prefix-place-requires : goal.after_prefix-place-requires
 after_prefix-place-requires g c = omega arith
 
 pub slide_own-to-requires : goal.slide_own-to-requires
-slide_own-to-requires g c = subst (λ (s : Site). IsUnwritten s.guide.now s.region c.args.target.now) (sym c.after_prefix-place.ensures) c.requires.target
+slide_own-to-requires g c = subst (λ (s : Site). IsUnwritten s.guide.now s.region c.args.words.now) (sym c.after_prefix-place.ensures) c.requires.words
 
-pub open-requires : goal.open-requires
-open-requires g c =
+pub note-requires : goal.note-requires
+note-requires g c =
     let site = c.args.self.now.site in
-    let i = c.loop-opening.invariant in
-    let regions = c.moves_of_images.ensures.regions site.guide.now in
-    let inside : c.loop-opening.ticket.region < table_regions (image_table site.guide.now) = omega (arith, i.region, site.inside, regions) in
-    subst (λ (p : HeapImage). c.loop-opening.ticket.region < table_regions (image_table p)) (sym c.plan.ensures) inside
-
-pub copy_opened-requires-clause-next : goal.copy_opened-requires-clause-next
-copy_opened-requires-clause-next g c =
-    let site = c.args.self.now.site in
-    let image : HeapImage = site.guide.now in
-    let valid : IsValid image = c.prefix_end.ensures.valid in
-    let i = c.loop-opening.invariant in
-    let o = c.in-Some.ensures in
-    let s : ℕ = c.in-Some.opening.source in
-    let law = c.moves_of_images.ensures.reads image valid in
-    let read = opened_source image valid law c.plan.result.now c.plan.ensures site.region c.loop-opening.ticket.region i.region c.plan_laws.ensures s o.reads.2 in
-    let unread = skipped_sources image valid law c.plan.result.now c.plan.ensures site.region c.loop-opening.ticket.region i.region c.loop-opening.ticket.next s o.least in
-    let above : site.region < s = read.2 in
-    let low : c.loop-opening.ticket.next ≤ s = o.reads.1 in
-    let next = i.next in
-    let all : s < table_regions (image_table image) = subst (λ (p : HeapImage). s < table_regions (image_table p)) c.plan.ensures o.inside in
-    record {
-      own = omega arith;
-      ordered = omega arith;
-      inside = omega (arith, c.moves_of_images.ensures.regions image);
-      read = read.1;
-      between = λ t l k. unread_above site.region t (reads (image_table image) site.region t) (image_reads image site.region t) (law site.region t) (omega arith) (unread t (omega arith) k);
-    }
-
-pub copy_opened-requires-clause-copied : goal.copy_opened-requires-clause-copied
-copy_opened-requires-clause-copied g c = c.loop-opening.invariant.copied
-
-pub note-requires-clause-few : goal.note-requires-clause-few
-note-requires-clause-few g c =
-    let site = c.args.self.now.site in
-    let place = (own_copied g (goal.at.note-requires-clause-few g c).After-slide_own-to).now.place in
+    let place = (own_copied g (goal.at.note-requires g c).After-slide_own-to).now.place in
     let high = c.prefix_end.ensures.valid.limits.region_log_high in
     let short : region_words site.guide.now < 2 ^ 21 = pow_below site.guide.now.region_log 21 (omega arith) in
     omega (arith, site.start, site.end)
 
-pub drain-requires-clause-ticket : goal.drain-requires-clause-ticket
-drain-requires-clause-ticket g c = λ t. c.in-Some.ensures.stays (g.D.Seating.moves c.args.self.now.desk.now) (g.D.Seating.caller c.loop-opening.seat) (c.loop-opening.invariant.is_ticket t)
+pub open-requires-clause-moves : goal.open-requires-clause-moves
+open-requires-clause-moves g c = ap image_table c.plan-plan.ensures ∙ sym c.args.self.now.keeps.moves ∙ sym (ap moves_of c.board.ensures)
+
+pub open-requires-clause-region : goal.open-requires-clause-region
+open-requires-clause-region g c =
+    let site = c.args.self.now.site in
+    let i = c.loop-opening.invariant in
+    let regions = c.moves_of_images.ensures.regions site.guide.now in
+    let inside : c.loop-opening.ticket.ticket.region < table_regions (image_table site.guide.now) = omega (arith, i.region, site.inside, regions) in
+    subst (λ (m : MoveTable). c.loop-opening.ticket.ticket.region < table_regions m) (sym (ap moves_of c.board.ensures ∙ c.args.self.now.keeps.moves)) inside
+
+-- what the next source is
+module _ (g : _) (c : In-Some g) where
+  abbrev image : HeapImage
+  image = c.args.self.now.site.guide.now
+
+  abbrev d : ℕ
+  d = c.args.self.now.site.region
+
+  abbrev s : ℕ
+  s = c.in-Some.opening.source
+
+  abbrev t : Ticket
+  t = c.loop-opening.ticket.ticket
+
+  abbrev table : MoveTable
+  table = moves_of c.board.result.now
+
+  valid : IsValid image
+  valid = c.prefix_end.ensures.valid
+
+  same : table ≡ image_table image
+  same = ap moves_of c.board.ensures ∙ c.args.self.now.keeps.moves
+
+  law : (p q : ℕ) → reads (image_table image) p q ≡ (not (p == q) && image_reads image p q)
+  law = c.moves_of_images.ensures.reads image valid
+
+  found : (reads (image_table image) d s ≡ true) × (image_reads image d s ≡ true) × (d < s)
+  found = opened_source image valid law table same d t.region c.loop-opening.invariant.region c.plan_laws.ensures s c.in-Some.ensures.reads.2
+
+  unread : (q : ℕ) → t.next ≤ q → q < s → reads (image_table image) d q ≡ false
+  unread = skipped_sources image valid law table same d t.region c.loop-opening.invariant.region t.next s c.in-Some.ensures.least
+
+  inside : s < region_count image
+  inside = subst (λ (n : ℕ). s < n) (ap table_regions same ∙ c.moves_of_images.ensures.regions image) c.in-Some.ensures.inside
+
+  low : t.next ≤ s
+  low = c.in-Some.ensures.reads.1
+
+  next_source : IsNextOtherSource image d c.loop-opening.from s
+  next_source =
+      let i = c.loop-opening.invariant in
+      record {
+        own = omega (arith, i.next);
+        ordered = omega (arith, i.next, low, found.2);
+        inside = inside;
+        read = found.1;
+        between = λ q l k. unread_above d q (reads (image_table image) d q) (image_reads image d q) (law d q) (omega (arith, l, i.next)) (unread q (omega (arith, l, i.next)) k);
+      }
+
+pub copy_source-end-requires-clause-source : goal.copy_source-end-requires-clause-source
+copy_source-end-requires-clause-source g c =
+    let at = (goal.at.copy_source-end-requires-clause-source g c).In-Some in
+    let site : c.after_prefix-place.result.site ≡ c.args.self.now.site = c.after_prefix-place.ensures in
+    let read = c.get.ensures ∙ c.in-Some.ensures.words ∙ ap (λ b. original_words b (s g at)) c.board.ensures ∙ c.args.self.now.keeps.original (s g at) (inside g at) in
+    read ∙ ap (block_of (image g at)) (sym c.source-s.ensures) ∙ ap (λ p. block_of p.guide.now c.source-s.result) (sym site)
+
+pub copy_source-end-requires-clause-next : goal.copy_source-end-requires-clause-next
+copy_source-end-requires-clause-next g c =
+    let at = (goal.at.copy_source-end-requires-clause-next g c).In-Some in
+    subst (λ (p : Site). (from : ℕ) × IsNextOtherSource p.guide.now p.region from c.source-s.result × IsCopied p.guide.now p.region from c.loop-opening.to c.loop-opening.words) (sym c.after_prefix-place.ensures)
+    (c.loop-opening.from, subst (IsNextOtherSource (image g at) (d g at) c.loop-opening.from) (sym c.source-s.ensures) (next_source g at), c.loop-opening.invariant.copied)
+
+pub drain-answer-requires-clause-board : goal.drain-answer-requires-clause-board
+drain-answer-requires-clause-board g c = ap (λ x. x.board) c.in-Some.ensures.caller ∙ c.loop-opening.invariant.board
 
 pub overflow_add-from-in-Some : goal.overflow_add-from-in-Some
 overflow_add-from-in-Some g c =
-    let image : HeapImage = c.args.self.now.site.guide.now in
-    let inside : c.in-Some.opening.source < table_regions (image_table image) = subst (λ (p : HeapImage). c.in-Some.opening.source < table_regions (image_table p)) c.plan.ensures c.in-Some.ensures.inside in
-    let few : table_regions (image_table image) ≤ 1048576 = (c.moves_of_images.ensures.lawful image c.prefix_end.ensures.valid).few in
-    let e : c.source-s.result ≡ c.in-Some.opening.source = c.source-s.ensures in
-    omega arith
+    let at = (goal.at.overflow_add-from-in-Some g c).In-Some in
+    let few : table_regions (image_table (image g at)) ≤ 1048576 = (c.moves_of_images.ensures.lawful (image g at) (valid g at)).few in
+    omega (arith, c.source-s.ensures, inside g at, c.moves_of_images.ensures.regions (image g at))
 
 pub loop-opening-init : goal.loop-opening-init
 loop-opening-init g c =
     let site = c.args.self.now.site in
     let image : HeapImage = site.guide.now in
-    let d : ℕ = site.region in
-    let old = g.D.Seating.caller c.args.seat.now in
     let t = c.requires.ticket in
-    let first : c.args.ticket.now.next ≡ 0 = t.unopened in
-    let none : other_sources_below (image_table image) d c.args.ticket.now.next ≡ [] = ap (other_sources_below (image_table image) d) first in
+    let first : c.args.ticket.now.ticket.next ≡ 0 = t.unopened in
+    let none : other_sources_below (image_table image) site.region c.args.ticket.now.ticket.next ≡ [] = ap (other_sources_below (image_table image) site.region) first in
     let own = own_copied g (goal.at.loop-opening-init g c).After-slide_own-to in
     record {
-      serves = c.note.ensures.seat;
+      number = refl;
+      board = c.requires.board;
       callable = c.requires.callable;
       region = t.region;
       claimed = refl;
-      is_ticket = λ tells. subst (λ x. IsTicketOf (g.D.Seating.moves c.args.self.now.desk.now) x c.args.ticket.now) (sym (c.in_ok-note.ensures.unchanged tells)) (t.claimed tells);
-      swept = λ tells s low reads. absurd (omega arith);
-      drained = undrained (λ f q h. goal.F-step g f q tt h) g.D.Seating.tells (image_table image) d c.args.ticket.now.next old (g.D.Seating.caller c.note.new.seat) c.args.on_last.now none c.in_ok-note.ensures.unchanged;
+      is_ticket = t.claimed;
+      swept = λ s low reads. let no : ⊥ = omega arith in absurd no;
+      holds = c.requires.holds;
+      drained = undrained (λ f q h. goal.F-step g f q tt h) (image_table image) site.region c.args.ticket.now.ticket.next (caller c.args.seat.now.pass) (caller c.args.seat.now.pass) c.args.on_last.now none refl;
       inside = omega arith;
       next = omega arith;
       copied = own.now;
-      same = own.same;
+      same_length = own.same_length;
     }
 
 pub loop-opening-preserved : goal.loop-opening-preserved
 loop-opening-preserved g c =
-    let image : HeapImage = c.args.self.now.site.guide.now in
-    let valid : IsValid image = c.prefix_end.ensures.valid in
-    let desk = g.D.Seating in
-    let d : ℕ = c.args.self.now.site.region in
-    let t = c.loop-opening.ticket in
-    let s : ℕ = c.in-Some.opening.source in
+    let at = (goal.at.loop-opening-preserved g c).In-Some in
+    let board = g.D.HasBoard.keeps c.args.self.now.desk.now in
+    let t = c.loop-opening.ticket.ticket in
     let i = c.loop-opening.invariant in
     let o = c.in-Some.ensures in
-    let x = c.in_ok-closed.ensures in
-    let a = c.in_ok-answer.ensures in
-    let old = desk.caller c.loop-opening.seat in
-    let new = desk.caller c.drain.new.seat in
-    let law = c.moves_of_images.ensures.reads image valid in
-    let read = opened_source image valid law c.plan.result.now c.plan.ensures d t.region i.region c.plan_laws.ensures s o.reads.2 in
-    let skipped = skipped_sources image valid law c.plan.result.now c.plan.ensures d t.region i.region t.next s o.least in
-    let moved : desk.moves c.args.self.now.desk.now ≡ image_table c.plan.result.now = c.args.self.now.moves ∙ ap image_table (sym c.plan.ensures) in
-    let skipped_moves = subst (λ (m : MoveTable). (q : ℕ) → t.next ≤ q → q < s → reads m t.region q ≡ false) (sym moved) o.least in
-    let pair : c.in_ok-closed.closed.destination ≡ t.region = x.closed.0 ∙ o.reads.0 in
-    let gains : desk.tells → Gains old new (Drain t.region s) (reply_of c.in_ok-answer.answer) = λ tells. subst (λ (event : Event). Gains old new event (reply_of c.in_ok-answer.answer)) (λ j. Drain (pair j) (x.closed.1 j)) (a.gains tells) in
-    let gains_here : desk.tells → Gains old new (Drain d s) (reply_of c.in_ok-answer.answer) = λ tells. subst (λ (r : ℕ). Gains old new (Drain r s) (reply_of c.in_ok-answer.answer)) i.region (gains tells) in
-    let next : c.drain.new.ticket.next ≡ s + 1 = a.same.1 ∙ o.next in
-    let low : t.next ≤ s = o.reads.1 in
-    let above : d < s = read.2 in
-    let number : c.source-s.result ≡ s = c.source-s.ensures in
-    let inside : s < table_regions (image_table image) = subst (λ (p : HeapImage). s < table_regions (image_table p)) c.plan.ensures o.inside in
-    let regions = c.moves_of_images.ensures.regions image in
-    let reported = subst (λ (q : ℕ). ReportsLast (λ f q h. goal.F-step g f q tt h) q c.in_ok-answer.answer c.loop-opening.on_last c.report_last.new.on_last) number c.report_last.ensures.reported in
+    let a = c.drain-answer.ensures in
+    let answer = c.drain-answer.result in
+    let first = caller c.args.seat.now.pass in
+    let old = caller c.loop-opening.seat.pass in
+    let new = caller c.drain-answer.new.seat.pass in
+    let skipped = subst (λ (m : MoveTable). (q : ℕ) → t.next ≤ q → q < s g at → reads m t.region q ≡ false) (ap moves_of c.board.ensures) o.least in
+    let pair : c.close.result.destination ≡ t.region = c.close.ensures.pair.0 ∙ o.reads.0 in
+    let opened = c.calls_of_passes_are_gained.ensures (moves_of board) (worker_count board) c.open.new.pass c.drain-answer.new.seat.pass (Drain c.close.result.destination c.close.result.source) (reply_of answer) a.entry in
+    let event = subst (λ (e : Event). Gains (caller c.open.new.pass) new e (reply_of answer)) (λ j. Drain (pair j) (c.close.ensures.pair.1 j)) opened in
+    let gains : Gains old new (Drain t.region (s g at)) (reply_of answer) = subst (λ (x : Caller). Gains x new (Drain t.region (s g at)) (reply_of answer)) o.caller event in
+    let gains_here = subst (λ (r : ℕ). Gains old new (Drain r (s g at)) (reply_of answer)) i.region gains in
+    let next : c.drain-answer.new.ticket.ticket.next ≡ s g at + 1 = a.same.1 ∙ o.next in
+    let number : c.source-s.result ≡ s g at = c.source-s.ensures in
+    let reported = subst (λ (q : ℕ). ReportsLast (λ f q h. goal.F-step g f q tt h) q answer c.loop-opening.on_last c.report_last.new.on_last) number c.report_last.ensures.reported in
+    let copied = subst (λ (p : Site). Becomes (IsCopied p.guide.now p.region (c.source-s.result + 1) c.copy_source-end.result) c.loop-opening.words c.copy_source-end.new.words) c.after_prefix-place.ensures c.copy_source-end.ensures.copied in
     record {
-      serves = a.seat;
+      number = a.number ∙ i.number;
+      board = gains.board ∙ i.board;
       callable = c.report_last.ensures.callable;
       region = a.same.0 ∙ (o.same.0 ∙ i.region);
-      claimed = a.same.2 ∙ (o.same.3 ∙ i.claimed);
+      claimed = a.same.3 ∙ (o.same.3 ∙ i.claimed);
       is_ticket = a.ticket;
-      swept = λ tells. c.one_more_source_is_drained.ensures (desk.moves c.args.self.now.desk.now) old new t c.drain.new.ticket s (reply_of c.in_ok-answer.answer) (i.swept tells) (a.same.0 ∙ o.same.0) next skipped_moves (gains tells);
-      drained = subst (λ (n : ℕ). HasDrained (λ f q h. goal.F-step g f q tt h) desk.tells (image_table image) d n (desk.caller c.args.seat.now) new c.args.on_last.now c.report_last.new.on_last) (sym next)
-          (drained_more (λ f q h. goal.F-step g f q tt h) desk.tells (image_table image) d t.next s c.in_ok-answer.answer (desk.caller c.args.seat.now) old new c.args.on_last.now c.loop-opening.on_last c.report_last.new.on_last i.drained low skipped read.0 reported gains_here);
-      inside = omega arith;
-      next = omega arith;
-      copied = subst (λ (n : ℕ). IsCopied image d (n + 1) c.in_ok-closed.end c.copy_opened.new.target) (sym number) x.copied.now;
-      same = target_over c.args.target.now c.loop-opening.target c.copy_opened.new.target i.same x.copied.same;
+      swept = c.one_more_source_is_drained.ensures (moves_of board) old new t c.drain-answer.new.ticket.ticket (s g at) (reply_of answer) i.swept (a.same.0 ∙ o.same.0) next skipped gains;
+      holds = a.holds;
+      drained = subst (λ (n : ℕ). HasDrained (λ f q h. goal.F-step g f q tt h) (image_table (image g at)) (d g at) n first new c.args.on_last.now c.report_last.new.on_last) (sym next)
+          (drained_more (λ f q h. goal.F-step g f q tt h) (image_table (image g at)) (d g at) t.next (s g at) answer first old new c.args.on_last.now c.loop-opening.on_last c.report_last.new.on_last i.drained (low g at) (unread g at) (found g at).0 reported gains_here);
+      inside = omega (arith, next, inside g at);
+      next = omega (arith, next, number, (found g at).2);
+      copied = copied.now;
+      same_length = copied.same_length ∙ i.same_length;
     }
 
 pub returns-clause-ticket : goal.returns-clause-ticket
 returns-clause-ticket g c =
     let image : HeapImage = c.args.self.now.site.guide.now in
-    let valid : IsValid image = c.prefix_end.ensures.valid in
-    let t = c.loop-opening.ticket in
+    let board = g.D.HasBoard.keeps c.args.self.now.desk.now in
+    let t = c.loop-opening.ticket.ticket in
     let i = c.loop-opening.invariant in
-    let moved : g.D.Seating.moves c.args.self.now.desk.now ≡ image_table c.plan.result.now = c.args.self.now.moves ∙ ap image_table (sym c.plan.ensures) in
-    let lawful = subst IsMoveTable (sym c.args.self.now.moves) (c.moves_of_images.ensures.lawful image valid) in
-    let last = subst (λ (m : MoveTable). (s : ℕ) → t.next ≤ s → reads m t.region s ≡ false) (sym moved) c.in_default.ensures.last in
-    let same = c.in_default.ensures.same in
+    let o = c.in_default.ensures in
+    let lawful = subst IsMoveTable (sym c.args.self.now.keeps.moves) (c.moves_of_images.ensures.lawful image c.prefix_end.ensures.valid) in
+    let last = subst (λ (m : MoveTable). (s : ℕ) → t.next ≤ s → reads m t.region s ≡ false) (ap moves_of c.board.ensures) o.last in
+    let none_left = c.swept_tickets_have_none_left.ensures (moves_of board) (caller c.loop-opening.seat.pass) t lawful i.is_ticket i.swept last in
     record {
-      region = same.0 ∙ i.region ∙ sym c.requires.ticket.region;
-      from = same.3 ∙ i.claimed;
-      claimed = λ tells. c.in_default.ensures.stays (g.D.Seating.moves c.args.self.now.desk.now) (g.D.Seating.caller c.loop-opening.seat) (i.is_ticket tells);
-      none_left = λ tells. same.1 ∙ c.swept_tickets_have_none_left.ensures (g.D.Seating.moves c.args.self.now.desk.now) (g.D.Seating.caller c.loop-opening.seat) t lawful (i.is_ticket tells) (i.swept tells) last;
+      region = o.same.0 ∙ i.region ∙ sym c.requires.ticket.region;
+      from = o.same.3 ∙ i.claimed;
+      claimed = subst (λ (x : Caller). IsTicketOf (moves_of board) x c.open.new.ticket.ticket) (sym o.caller) (o.stays (moves_of board) (caller c.loop-opening.seat.pass) i.is_ticket);
+      none_left = o.same.1 ∙ none_left;
     }
-
-pub redirect_objects-requires-clause-own : goal.redirect_objects-requires-clause-own
-redirect_objects-requires-clause-own g c =
-    let here : c.after_prefix-place.result.site.region ≡ c.args.self.now.site.region = ap (λ s. s.region) c.after_prefix-place.ensures in
-    let next = c.loop-opening.invariant.next in
-    omega arith
-
-pub redirect_objects-requires-clause-copied : goal.redirect_objects-requires-clause-copied
-redirect_objects-requires-clause-copied g c =
-    subst (λ (s : Site). IsCopied s.guide.now s.region c.loop-opening.from c.loop-opening.to c.loop-opening.target) (sym c.after_prefix-place.ensures) c.loop-opening.invariant.copied
 
 pub redirect_objects-requires-clause-last : goal.redirect_objects-requires-clause-last
 redirect_objects-requires-clause-last g c =
@@ -183,30 +209,49 @@ redirect_objects-requires-clause-last g c =
     let image : HeapImage = site.guide.now in
     let valid : IsValid image = c.prefix_end.ensures.valid in
     let law = c.moves_of_images.ensures.reads image valid in
-    let t = c.loop-opening.ticket in
+    let t = c.loop-opening.ticket.ticket in
     let i = c.loop-opening.invariant in
     let next = i.next in
-    let past = last_sources_past image valid law c.plan.result.now c.plan.ensures site.region t.region i.region t.next c.in_default.ensures.last in
-    subst (λ (s : Site). (q : ℕ) → c.loop-opening.from ≤ q → q < region_count s.guide.now → image_reads s.guide.now s.region q ≡ false) (sym c.after_prefix-place.ensures)
+    let same = ap moves_of c.board.ensures ∙ c.args.self.now.keeps.moves in
+    let past = last_sources_past image valid law (moves_of c.board.result.now) same site.region t.region i.region t.next c.in_default.ensures.last in
+    subst (λ (p : Site). (q : ℕ) → c.loop-opening.from ≤ q → q < region_count p.guide.now → image_reads p.guide.now p.region q ≡ false) (sym c.after_prefix-place.ensures)
     (λ q l k. unread_above site.region q (reads (image_table image) site.region q) (image_reads image site.region q) (law site.region q) (omega arith) (past q (omega arith)))
-
-pub returns-clause-moved : goal.returns-clause-moved
-returns-clause-moved g c =
-    let moved = subst (λ (s : Site). Becomes (IsMoved s.guide.now s.region) c.loop-opening.target c.redirect_objects.new.target) c.after_prefix-place.ensures c.redirect_objects.ensures in
-    record { same = target_over c.args.target.now c.loop-opening.target c.redirect_objects.new.target c.loop-opening.invariant.same moved.same; now = moved.now }
 
 pub returns-clause-drained : goal.returns-clause-drained
 returns-clause-drained g c =
     let image : HeapImage = c.args.self.now.site.guide.now in
     let valid : IsValid image = c.prefix_end.ensures.valid in
-    let t = c.loop-opening.ticket in
+    let t = c.loop-opening.ticket.ticket in
     let i = c.loop-opening.invariant in
-    let past = last_sources_past image valid (c.moves_of_images.ensures.reads image valid) c.plan.result.now c.plan.ensures c.args.self.now.site.region t.region i.region t.next c.in_default.ensures.last in
-    drained_all (λ f s h. goal.F-step g f s tt h) g.D.Seating.tells (image_table image) c.args.self.now.site.region t.next (region_count image) (g.D.Seating.caller c.args.seat.now) (g.D.Seating.caller c.loop-opening.seat) c.args.on_last.now c.loop-opening.on_last i.drained i.inside past
+    let same = ap moves_of c.board.ensures ∙ c.args.self.now.keeps.moves in
+    let past = last_sources_past image valid (c.moves_of_images.ensures.reads image valid) (moves_of c.board.result.now) same c.args.self.now.site.region t.region i.region t.next c.in_default.ensures.last in
+    subst (λ (x : Caller). HasDrained (λ f s h. goal.F-step g f s tt h) (image_table image) c.args.self.now.site.region (region_count image) (caller c.args.seat.now.pass) x c.args.on_last.now c.loop-opening.on_last) (sym c.in_default.ensures.caller)
+    (drained_all (λ f s h. goal.F-step g f s tt h) (image_table image) c.args.self.now.site.region t.next (region_count image) (caller c.args.seat.now.pass) (caller c.loop-opening.seat.pass) c.args.on_last.now c.loop-opening.on_last i.drained i.inside past)
 
 pub returns-then-self-prefix_end-clause-drained : goal.returns-then-self-prefix_end-clause-drained
 returns-then-self-prefix_end-clause-drained g c =
     let site = c.args.self.now.site in
-    on_ok_weaker c.fill_in_prefix.result
-    (undrained (λ f s h. goal.F-step g f s tt h) g.D.Seating.tells (image_table site.guide.now) site.region (region_count site.guide.now) (g.D.Seating.caller c.args.seat.now) (g.D.Seating.caller c.fill_in_prefix.new.seat) c.args.on_last.now c.fill_in_prefix.ensures.no_source)
-    c.fill_in_prefix.ensures.unchanged
+    undrained (λ f s h. goal.F-step g f s tt h) (image_table site.guide.now) site.region (region_count site.guide.now) (caller c.args.seat.now.pass) (caller c.args.seat.now.pass) c.args.on_last.now c.fill_in_prefix.ensures.no_source refl
+
+pub drain-answer-requires-clause-ticket : goal.drain-answer-requires-clause-ticket
+drain-answer-requires-clause-ticket g c =
+    let board = moves_of (g.D.HasBoard.keeps c.args.self.now.desk.now) in
+    let o = c.in-Some.ensures in
+    subst (λ (x : Caller). IsTicketOf board x c.open.new.ticket.ticket) (sym o.caller) (o.stays board (caller c.loop-opening.seat.pass) c.loop-opening.invariant.is_ticket)
+
+pub drain-answer-requires-clause-closed : goal.drain-answer-requires-clause-closed
+drain-answer-requires-clause-closed g c =
+    let m = moves_of (g.D.HasBoard.keeps c.args.self.now.desk.now) in
+    let o = c.in-Some.ensures in
+    let pair = c.close.ensures.pair in
+    let from : c.close.result.ticket.value ≡ c.open.new.ticket.ticket = ap (λ x. x.value) c.close.ensures.from ∙ o.from in
+    let opening = o.owner (caller c.loop-opening.seat.pass) (subst (λ (n : MoveTable). IsTicketOf n (caller c.loop-opening.seat.pass) c.loop-opening.ticket.ticket) (sym (ap moves_of c.board.ensures)) c.loop-opening.invariant.is_ticket) in
+    let here = subst (λ (x : Caller). IsOpeningOf m x c.in-Some.opening) (sym o.caller) (subst (λ (n : MoveTable). IsOpeningOf n (caller c.loop-opening.seat.pass) c.in-Some.opening) (ap moves_of c.board.ensures) opening) in
+    let next = o.next in
+    record {
+      board = ap ticket_board from;
+      worker = ap ticket_claimant from;
+      destination = pair.0 ∙ o.reads.0 ∙ sym o.same.0;
+      opened = omega (arith, pair.1);
+      undrained = ap (λ r. is_pending m (own (caller c.open.new.pass)) r c.close.result.source) pair.0 ∙ ap (is_pending m (own (caller c.open.new.pass)) c.in-Some.opening.destination) pair.1 ∙ here.1;
+    }

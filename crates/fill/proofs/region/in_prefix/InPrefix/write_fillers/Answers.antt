@@ -1,9 +1,9 @@
-use Rattle.std.proofs.Common.{◌≡◌, ◌+◌, ◌-◌, ◌≤◌, ◌<◌, ℕ, List, inl, inr, sym, subst, arith}
+use Rattle.std.proofs.Common.{◌≡◌, ◌+◌, ◌-◌, ◌≤◌, ◌<◌, ℕ, List, inl, inr, refl, sym, ◌∙◌, subst, arith}
 use Rattle.std.proofs.lemmas.Bool.{cases_lt}
 use Rattle.object_heap.specs.HeapImage.{HeapImage, HasLiveList, region_words, start_of, word_at}
 use Rattle.fill.specs.WordBlocks.{Shows}
 use Rattle.fill.specs.CopiedWords.{copied_word}
-use Rattle.fill.proofs.Lemmas.Targets.{same_target, target_over, still_block, unwritten_block}
+use Rattle.fill.proofs.Lemmas.WrittenWords.{unwritten_block}
 use Rattle.fill.proofs.Lemmas.Writing.{split_none, split_all}
 use Rattle.fill.proofs.Lemmas.WrittenTo.{shows_start}
 use Rattle.fill.proofs.Lemmas.Gaps.{split_stays}
@@ -14,20 +14,20 @@ loop-at-init c =
     let image : HeapImage = c.args.self.now.site.guide.now in
     let at : c.args.self.now.site.span.start ≡ start_of image c.args.self.now.site.region = c.args.self.now.site.start in
     let inside = c.args.self.now.site.inside in
-    let shows : Shows (word_at image) (c.args.self.now.site.span.start) c.args.target.now.words =
-    subst (λ (m : ℕ). Shows (word_at image) m c.args.target.now.words) (sym at)
-    (subst (λ (xs : List ℕ). Shows (word_at image) (start_of image c.args.self.now.site.region) xs) (sym c.requires.words) (shows_start image c.image_is_valid.ensures c.args.self.now.site.region inside)) in
+    let shows : Shows (word_at image) (c.args.self.now.site.span.start) c.args.words.now =
+    subst (λ (m : ℕ). Shows (word_at image) m c.args.words.now) (sym at)
+    (subst (λ (xs : List ℕ). Shows (word_at image) (start_of image c.args.self.now.site.region) xs) (sym c.requires) (shows_start image c.image_is_valid.ensures c.args.self.now.site.region inside)) in
     record {
       low = omega arith;
       high = omega arith;
-      split = split_none (copied_word image) (word_at image) (c.args.self.now.site.span.start) c.args.target.now.words shows;
-      same = same_target c.args.target.now;
+      split = split_none (copied_word image) (word_at image) (c.args.self.now.site.span.start) c.args.words.now shows;
+      same_length = refl;
     }
 
-pub write_gap-requires-clause-target : goal.write_gap-requires-clause-target
-write_gap-requires-clause-target c =
+pub write_gap-requires-clause-block : goal.write_gap-requires-clause-block
+write_gap-requires-clause-block c =
     let site = c.args.self.now.site in
-    still_block site.guide.now c.args.target.now c.loop-at.target (unwritten_block site.guide.now site.region c.args.target.now c.image_is_valid.ensures site.inside c.requires) c.loop-at.invariant.same
+    c.loop-at.invariant.same_length ∙ (unwritten_block site.guide.now site.region c.args.words.now c.image_is_valid.ensures site.inside c.requires)
 
 pub loop-at-smaller : goal.loop-at-smaller
 loop-at-smaller c =
@@ -59,8 +59,8 @@ loop-at-preserved c =
     record {
       low = omega arith;
       high = omega arith;
-      split = split_stays c.plan_laws.ensures image sound start c.write_gap.new.target.words c.next_run-run.result.begin c.next_run-run.result.end c.write_gap.ensures.now up (omega arith) (λ q l m. r.live q l m);
-      same = target_over c.args.target.now c.loop-at.target c.write_gap.new.target h.same c.write_gap.ensures.same;
+      split = split_stays c.plan_laws.ensures image sound start c.write_gap.new.words c.next_run-run.result.begin c.next_run-run.result.end c.write_gap.ensures.now up (omega arith) (λ q l m. r.live q l m);
+      same_length = c.write_gap.ensures.same_length ∙ h.same_length;
     }
 
 pub returns : goal.returns
@@ -68,6 +68,6 @@ returns c =
     let site = c.args.self.now.site in
     let image : HeapImage = site.guide.now in
     let h = c.loop-at.invariant in
-    let block = still_block image c.args.target.now c.loop-at.target (unwritten_block image site.region c.args.target.now c.image_is_valid.ensures site.inside c.requires) h.same in
+    let block = h.same_length ∙ (unwritten_block image site.region c.args.words.now c.image_is_valid.ensures site.inside c.requires) in
     let end : site.span.end ≤ c.loop-at.at = c.loop-at-test.false in
-    record { same = h.same; now = split_all (copied_word image) (word_at image) site.span.start c.loop-at.target.words c.loop-at.at h.split (omega (arith, block.long, site.start, site.end)) }
+    record { same_length = h.same_length; now = split_all (copied_word image) (word_at image) site.span.start c.loop-at.words c.loop-at.at h.split (omega (arith, block, site.start, site.end)) }

@@ -1,13 +1,12 @@
 use Rattle.std.proofs.Common.{◌≡◌, ◌+◌, ◌-◌, ◌*◌, ◌/◌, ◌^◌, ◌≤◌, ◌<◌, ℕ, List, length, set, replicate, inl, inr, refl, sym, ◌∙◌, ap, subst, arith, true, false, length-set}
 use Rattle.std.proofs.lemmas.Bool.{cases_eq, cases_lt}
 use Rattle.object_heap.specs.Header.{filler_header}
-use Rattle.object_heap.specs.HeapImage.{HeapImage, HasLiveList, heap_words, word_at, is_live_word}
+use Rattle.object_heap.specs.HeapImage.{HeapImage, HasLiveList, word_at, is_live_word}
 use Rattle.summary.specs.NewAddresses.{prefix_end}
 use Rattle.summary.specs.Fillers.{filler_limit, may_begin_filler}
 use Rattle.raw_region.specs.Region.{with_words}
 use Rattle.fill.specs.WordBlocks.{IsSplitAt}
 use Rattle.fill.specs.CopiedWords.{copied_word}
-use Rattle.fill.proofs.Lemmas.Targets.{same_target, target_over, target_kept, still_block}
 use Rattle.fill.proofs.Lemmas.Writing.{split_set}
 use Rattle.fill.proofs.Lemmas.Gaps.{region_in_stride, copied-first, copied-rest, copied-behind, split_zero}
 use Rattle.fill.proofs.region.in_prefix.InPrefix.write_gap.Goals as goal
@@ -39,7 +38,7 @@ returns-then-may_begin_filler c =
     let start : ℕ = c.args.self.now.site.span.start in
     let at : ℕ = c.args.at in
     let stop : ℕ = c.args.stop in
-    let xs : List ℕ = c.args.target.now.words in
+    let xs : List ℕ = c.args.words.now in
     let w : ℕ = c.filler.result in
     let low : start ≤ at = r.low in
     let less : at < stop = omega arith in
@@ -49,7 +48,7 @@ returns-then-may_begin_filler c =
     let up : end ≤ prefix_end image = omega arith in
     let near : end ≤ (at / 2147483648 + 1) * 2147483648 = omega arith in
     let dead = dead_to_end image at stop end r.dead c.filler_end-end.ensures.dead in
-    let high : stop ≤ start + length xs = omega (arith, r.high, r.target.long, c.args.self.now.site.start, c.args.self.now.site.end) in
+    let high : stop ≤ start + length xs = omega (arith, r.high, r.block, c.args.self.now.site.start, c.args.self.now.site.end) in
     let begins : may_begin_filler image at ≡ true = sym c.may_begin_filler.ensures ∙ c.if-may_begin_filler.true in
     let header : copied_word image at ≡ filler_header (end - at) = copied-first c.plan_laws.ensures image sound at end (omega arith) limit dead c.filler_end-end.ensures.live begins in
     let one = split_set (copied_word image) (word_at image) start xs at w r.split low (omega arith) (c.filler.ensures ∙ sym header) in
@@ -57,13 +56,10 @@ returns-then-may_begin_filler c =
     let two = split_zero c.plan_laws.ensures image sound start (set xs (at - start) w) (at + 1) (stop - at - 1) one (omega arith) (omega arith) (λ q l m. copied-behind c.plan_laws.ensures image sound at end q up near dead (omega arith) (omega arith)) in
     let i : at + 1 - start ≡ at - start + 1 = omega arith in
     let p : at + 1 + (stop - at - 1) ≡ stop = omega arith in
-    let now = subst (λ (ys : List ℕ). IsSplitAt (copied_word image) (word_at image) start ys stop) (sym (ap (λ t. t.words) c.fill.ensures.value ∙ ap (λ (t : List ℕ). with_words t (c.args.at - c.args.self.now.site.span.start + 1) (replicate (c.args.stop - c.args.at - 1) 0)) (ap (λ t. t.words) c.set.ensures.value)))
+    let now = subst (λ (ys : List ℕ). IsSplitAt (copied_word image) (word_at image) start ys stop) (sym (c.fill.ensures.value ∙ ap (λ (t : List ℕ). with_words t (c.args.at - c.args.self.now.site.span.start + 1) (replicate (c.args.stop - c.args.at - 1) 0)) c.set.ensures.value))
     (subst (λ (j : ℕ). IsSplitAt (copied_word image) (word_at image) start (with_words (set xs (at - start) w) j (replicate (stop - at - 1) 0)) stop) i
     (subst (IsSplitAt (copied_word image) (word_at image) start (with_words (set xs (at - start) w) (at + 1 - start) (replicate (stop - at - 1) 0))) p two)) in
-    let header_written = target_kept image c.args.target.now c.set.new.self (set xs (at - start) w) r.target c.set.ensures.value c.set.ensures.length in
-    let block = still_block image c.args.target.now c.set.new.self r.target header_written in
-    let rest_written = target_kept image c.set.new.self c.fill.new.self (with_words c.set.new.self.words (at - start + 1) (replicate (stop - at - 1) 0)) block c.fill.ensures.value c.fill.ensures.length in
-    record { same = target_over c.args.target.now c.set.new.self c.fill.new.self header_written rest_written; now = now }
+    record { same_length = c.fill.ensures.same_length ∙ c.set.ensures.same_length; now = now }
 
 pub returns-else-may_begin_filler : goal.returns-else-may_begin_filler
 returns-else-may_begin_filler c =
@@ -73,11 +69,11 @@ returns-else-may_begin_filler c =
     let start : ℕ = c.args.self.now.site.span.start in
     let at : ℕ = c.args.at in
     let stop : ℕ = c.args.stop in
-    let xs : List ℕ = c.args.target.now.words in
+    let xs : List ℕ = c.args.words.now in
     let low : start ≤ at = r.low in
     let less : at < stop = omega arith in
     let up : stop ≤ prefix_end image = omega (arith, r.high, c.args.self.now.site.end, c.plan_laws.ensures.prefix_region image c.args.self.now.site.region c.args.self.now.in_prefix) in
-    let high : stop ≤ start + length xs = omega (arith, r.high, r.target.long, c.args.self.now.site.start, c.args.self.now.site.end) in
+    let high : stop ≤ start + length xs = omega (arith, r.high, r.block, c.args.self.now.site.start, c.args.self.now.site.end) in
     let near = near_end image image.region_log c.args.self.now.site.region start c.args.self.now.site.span.end at stop refl c.image_is_valid.ensures.limits.region_log_high c.args.self.now.site.start c.args.self.now.site.end low less r.high in
     let rest : may_begin_filler image at ≡ false = sym c.may_begin_filler.ensures ∙ c.if-may_begin_filler.false in
     let zeros = λ (q : ℕ) (l : at ≤ q) (m : q < at + (stop - at)). (
@@ -87,9 +83,9 @@ returns-else-may_begin_filler c =
     ] in out) in
     let two = split_zero c.plan_laws.ensures image sound start xs at (stop - at) r.split low (omega arith) zeros in
     let p : at + (stop - at) ≡ stop = omega arith in
-    let now = subst (λ (ys : List ℕ). IsSplitAt (copied_word image) (word_at image) start ys stop) (sym (ap (λ t. t.words) c.fill-else-may_begin_filler.ensures.value))
+    let now = subst (λ (ys : List ℕ). IsSplitAt (copied_word image) (word_at image) start ys stop) (sym c.fill-else-may_begin_filler.ensures.value)
     (subst (IsSplitAt (copied_word image) (word_at image) start (with_words xs (at - start) (replicate (stop - at) 0))) p two) in
-    record { same = target_kept image c.args.target.now c.fill-else-may_begin_filler.new.self (with_words xs (at - start) (replicate (stop - at) 0)) r.target c.fill-else-may_begin_filler.ensures.value c.fill-else-may_begin_filler.ensures.length; now = now }
+    record { same_length = c.fill-else-may_begin_filler.ensures.same_length; now = now }
 
 pub may_begin_filler-requires : goal.may_begin_filler-requires
 may_begin_filler-requires c =
@@ -100,7 +96,7 @@ pub returns-then-at-stop : goal.returns-then-at-stop
 returns-then-at-stop c =
     let image : HeapImage = c.args.self.now.site.guide.now in
     let same : c.args.at ≡ c.args.stop = omega arith in
-    record { same = same_target c.args.target.now; now = subst (λ (p : ℕ). IsSplitAt (copied_word image) (word_at image) c.args.self.now.site.span.start c.args.target.now.words p) same c.requires.split }
+    record { same_length = refl; now = subst (λ (p : ℕ). IsSplitAt (copied_word image) (word_at image) c.args.self.now.site.span.start c.args.words.now p) same c.requires.split }
 
 pub filler_end-end-requires-clause-below : goal.filler_end-end-requires-clause-below
 filler_end-end-requires-clause-below c =

@@ -2,12 +2,11 @@ use Rattle.std.proofs.Common.{◌≡◌, ◌+◌, ◌-◌, ◌≤◌, ◌<◌, �
 use Rattle.std.proofs.lemmas.List.{get_or_default}
 use Rattle.raw_region.specs.Region.{with_words, part}
 use Rattle.object_heap.specs.Header.{references_of}
-use Rattle.object_heap.specs.HeapImage.{HeapImage, HasLiveList, word_at, references_at, size_at, region_words, is_null_or_live}
+use Rattle.object_heap.specs.HeapImage.{HeapImage, HasLiveList, word_at, references_at, size_at, is_null_or_live}
 use Rattle.summary.specs.Compaction.{moved_word, redirected, redirected_word}
 use Rattle.fill.specs.WordBlocks.{IsSplitAt}
 use Rattle.fill.specs.CopiedWords.{copied_word}
 use Rattle.fill.specs.Objects.{IsMovedTo}
-use Rattle.fill.proofs.Lemmas.Targets.{target_kept}
 use Rattle.fill.proofs.Lemmas.Redirects.{object_size}
 use Rattle.fill.proofs.Lemmas.Steps.{header-read, reference-read, reference-sound, object-row, object-done}
 use Rattle.fill.proofs.Lemmas.Writing.{get_or-part, length-part}
@@ -23,8 +22,7 @@ get-requires c =
     let ends : c.args.at + size_at image a ≤ c.args.self.now.span.end = r.object.high a on in
     let size = object_size c.plan_laws.ensures image c.image_is_valid.ensures.live_list a on.object in
     let some : 0 < size_at image a = size.0 in
-    let same : region_words c.args.target.now.image ≡ region_words image = ap region_words r.target.image in
-    omega (arith, r.low, ends, c.args.self.now.start, c.args.self.now.end)
+    omega (arith, r.block, r.low, ends, c.args.self.now.start, c.args.self.now.end)
 
 -- once the number of references is read
 module _ (c : After-references-count) where
@@ -32,7 +30,7 @@ module _ (c : After-references-count) where
   image = c.args.self.now.guide.now
 
   abbrev words : List ℕ
-  words = c.args.target.now.words
+  words = c.args.words.now
 
   abbrev first : ℕ
   first = c.args.at - c.args.self.now.span.start
@@ -42,7 +40,7 @@ module _ (c : After-references-count) where
 
   -- the object that goes there lies in the words
   fits : (a : ℕ) → IsMovedTo image c.args.at a → c.args.at + size_at image a ≤ c.args.self.now.span.start + length words
-  fits a on = let end = c.requires.object.high a on in omega (arith, end, c.requires.target.long, c.args.self.now.start, c.args.self.now.end)
+  fits a on = let end = c.requires.object.high a on in omega (arith, end, c.requires.block, c.args.self.now.start, c.args.self.now.end)
 
   count : (a : ℕ) → IsMovedTo image c.args.at a → c.references-count.result ≡ references_at image a
   count a on =
@@ -66,8 +64,7 @@ module _ (c : After-references-count) where
 pub redirect-requires-clause-inside : goal.redirect-requires-clause-inside
 redirect-requires-clause-inside c =
     let read = (goal.at.redirect-requires-clause-inside c).After-references-count in
-    let same : region_words c.args.target.now.image ≡ region_words c.args.self.now.guide.now = ap region_words c.requires.target.image in
-    omega (arith, inside read, same, c.requires.target.long)
+    inside read
 
 pub redirect-requires-clause-sound : goal.redirect-requires-clause-sound
 redirect-requires-clause-sound c = λ f d l.
@@ -82,7 +79,7 @@ redirect-requires-clause-sound c = λ f d l.
     let word : get_or (part xs (first read + 1) n) f d ≡ word_at g (a + 1 + f) =
     get_or_default (part xs (first read + 1) n) f d 0 l ∙ get_or-part xs (first read + 1) n f few
     ∙ reference-read c.plan_laws.ensures g (sound read) a f c.args.self.now.span.start c.args.at xs on.object (c.requires.object.early a on) on.place c.requires.low (fits read a on) more c.requires.split in
-    subst (λ (m : HeapImage). is_null_or_live m (get_or (part xs (first read + 1) n) f d) ≡ true) (sym c.requires.target.image)
+    subst (λ (m : HeapImage). is_null_or_live m (get_or (part xs (first read + 1) n) f d) ≡ true) (sym c.plan.ensures)
     (subst (λ (w : ℕ). is_null_or_live g w ≡ true) (c.image_is_own.ensures.leads (word_at g (a + 1 + f)) ∙ sym word) (reference-sound c.plan_laws.ensures g (sound read) a f on.object more))
 
 pub returns : goal.returns
@@ -93,14 +90,14 @@ returns c =
     let xs : List ℕ = words read in
     let from : ℕ = first read + 1 in
     record {
-      same = target_kept g c.args.target.now c.redirect.new.self (with_words xs from (map (redirected c.args.target.now.image) (part xs from c.references-count.result))) c.requires.target c.redirect.ensures.value c.redirect.ensures.length;
+      same_length = c.redirect.ensures.same_length;
       now = λ b is. (
-          let written : c.redirect.new.self.words ≡ with_words xs from (map (redirected_word g) (part xs from (references_at g b))) =
-          ap (λ t. t.words) c.redirect.ensures.value
-          ∙ ap (λ (m : HeapImage). with_words xs from (map (redirected m) (part xs from c.references-count.result))) c.requires.target.image
+          let written : c.redirect.new.region ≡ with_words xs from (map (redirected_word g) (part xs from (references_at g b))) =
+          c.redirect.ensures.value
+          ∙ ap (λ (m : HeapImage). with_words xs from (map (redirected m) (part xs from c.references-count.result))) c.plan.ensures
           ∙ ap (λ (n : ℕ). with_words xs from (map (redirected g) (part xs from n))) (count read b is)
           ∙ ap (with_words xs from) (sym (c.image_is_own.ensures.redirects_all (part xs from (references_at g b)))) in
           let row = object-row c.plan_laws.ensures g (sound read) b start c.args.at xs is.object (c.requires.object.early b is) is.place c.requires.low (fits read b is) c.requires.split in
-          object-done c.plan_laws.ensures g (sound read) b start c.args.at c.redirect.new.self.words is.object is.place
+          object-done c.plan_laws.ensures g (sound read) b start c.args.at c.redirect.new.region is.object is.place
           (subst (λ (ys : List ℕ). IsSplitAt (moved_word g) (copied_word g) start ys (c.args.at + 1 + references_at g b)) (sym written) row));
     }

@@ -1,0 +1,6 @@
+pub mod Fields
+pub mod Handles
+pub mod Leases
+pub mod Names
+pub mod Numbers
+pub mod Values

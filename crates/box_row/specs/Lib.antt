@@ -1,0 +1,4 @@
+pub mod Handles
+pub mod Ownership
+pub mod Places
+pub mod Rows
