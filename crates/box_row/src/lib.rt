@@ -11,7 +11,7 @@
 //! while a value is out, its block stays allocated for good. If a box is dropped, so is its value, and its row never becomes
 //! whole again.
 //!
-//! The modules `rest` and `right` have the raw pointers. Each of their six functions is proved by hand, and so are the two
+//! The modules `rest` and `right` have the raw pointers. Each of their six functions is proved by hand, and so are the four
 //! of the allocator, in `place`.
 #![tactic(auto)]
 
