@@ -57,8 +57,12 @@ typedef struct pcompact_answer {
  * and `answer` aren't null, and nobody writes there meanwhile. `answer` need not be filled before. */
 uint32_t pcompact_summary_of_image(const uint8_t *bytes, size_t len, pcompact_answer *answer);
 
-/* What the words of a heap don't say. Its regions divide the words. There are at most 16384 regions and 4194304 words, with
- * roots 1048576 and 68719476736: else the fault is 4. */
+/* What the words of a heap don't say. Its regions divide the words. There are at most 16384 regions and 4194304 words, which are
+ * 32 MiB, with roots 1048576 and 68719476736: else the fault is 4.
+ *
+ * The first word of an object is its header, (1 << 56) + (references << 32) + size: below 2^24 references, and a size in words,
+ * this one included, below 2^32. By `+` 2^24 references make another kind, which is fault 7; by `|` they would make an object
+ * without references, and what they lead to would be lost. */
 typedef struct pcompact_settings {
     uint32_t region_log; /* the logarithm, to base 2, of the number of words of a region: 3 to 16, with roots to 20 */
     uint64_t allowance;  /* the largest number of dead words that the dense prefix may keep */
@@ -181,7 +185,7 @@ pcompact_fault pcompact_begin_in_place_rooted(uint64_t *words, size_t word_count
 enum {
     PCOMPACT_SETTLED = 0,    /* all regions are filled */
     PCOMPACT_TURNS_USED = 1, /* the turns are used up */
-    PCOMPACT_NONE_READY = 2, /* no region is ready: another worker may make some ready */
+    PCOMPACT_NONE_READY = 2, /* no region is ready: another worker may make some ready, and want this processor for it */
     PCOMPACT_NOT_HELD = 5    /* the handle isn't held */
 };
 
@@ -189,8 +193,8 @@ enum {
  * and never waits. `handle` isn't null. */
 uint32_t pcompact_work(pcompact_handle *handle, uint64_t turns);
 
-/* The same until all regions are filled; spins while none is ready, so it wants a processor for each worker. Returns
- * PCOMPACT_SETTLED or PCOMPACT_NOT_HELD. */
+/* The same until all regions are filled; spins while none is ready, so it wants a processor for each worker. Where they may have
+ * fewer, call pcompact_work, and sched_yield after PCOMPACT_NONE_READY. Returns PCOMPACT_SETTLED or PCOMPACT_NOT_HELD. */
 uint32_t pcompact_work_all(pcompact_handle *handle);
 
 /* Ends a collection by the handles of one pcompact_begin or pcompact_begin_rooted, in any order, once no other call uses them:

@@ -14,7 +14,7 @@ struct head {
     uint64_t words, allowance;
 };
 
-static uint64_t header(uint64_t references, uint64_t size) { return UINT64_C(1) << 56 | references << 32 | size; }
+static uint64_t header(uint64_t references, uint64_t size) { return (UINT64_C(1) << 56) + (references << 32) + size; }
 
 static uint64_t reference(uint64_t address) { return address + 1; }
 

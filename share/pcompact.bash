@@ -83,13 +83,13 @@ _pcompact_takes() {
     map) options='--after --width --height --svg --region-log --allowance --letters --color --no-color --atomic --verbose -h --help' most=1 ;;
     text) options='--verbose -h --help' most=1 ;;
     assemble) options='--atomic --verbose -h --help' most=2 ;;
-    record) options='--workers --region-log --allowance --atomic --stats --progress --verbose -h --help' most=3 ;;
+    record) options='--workers --turns --region-log --allowance --atomic --stats --progress --verbose -h --help' most=3 ;;
     replay) options='--region-log --allowance --progress --verbose -h --help' most=2 ;;
     timeline) options='--width --svg --html --region-log --allowance --letters --color --no-color --atomic --verbose -h --help' most=2 ;;
     upgrade) options='--to --progress --atomic --verbose -h --help' most=2 ;;
     import) options='--region-log --allowance --version --live-only --classes --histogram --json --stats --progress --atomic --verbose -h --help' most=2 ;;
     generate) options='--words --live --region-log --seed --refs --version --allowance --progress --atomic --verbose -h --help' most=1 ;;
-    board) options='-h --help' most=0 ;;
+    board) options='--steps -h --help' most=0 ;;
     help) options='' most=1 ;;
     esac
 }

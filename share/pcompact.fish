@@ -87,6 +87,7 @@ complete -c pcompact -n '__pcompact_is assemble' -l verbose -d 'Print more detai
 complete -c pcompact -n '__pcompact_is assemble' -s h -l help -d 'Print help'
 complete -c pcompact -n '__pcompact_is record' -F
 complete -c pcompact -n '__pcompact_is record' -l workers -x -a '(seq 1 64)' -d 'Number of worker threads, from 1 to 64'
+complete -c pcompact -n '__pcompact_is record' -l turns -d 'Let workers take turns, so that each has some of the work'
 complete -c pcompact -n '__pcompact_is record' -l region-log -x -a '(seq 3 20)' -d 'Read IMAGE as if its regions had 2^k words, k from 3 to 20'
 complete -c pcompact -n '__pcompact_is record' -l allowance -x -d 'Read IMAGE as if its dense prefix might keep m dead words'
 complete -c pcompact -n '__pcompact_is record' -l atomic -d 'Replace files only once the command has succeeded'
@@ -143,4 +144,5 @@ complete -c pcompact -n '__pcompact_is generate' -l progress -a 'auto always nev
 complete -c pcompact -n '__pcompact_is generate' -l atomic -d 'Replace files only once the command has succeeded'
 complete -c pcompact -n '__pcompact_is generate' -l verbose -d 'Print more details about errors'
 complete -c pcompact -n '__pcompact_is generate' -s h -l help -d 'Print help'
+complete -c pcompact -n '__pcompact_is board' -l steps -d 'Print the calls of one order first, with their answers'
 complete -c pcompact -n '__pcompact_is board' -s h -l help -d 'Print help'

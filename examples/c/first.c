@@ -8,8 +8,8 @@
 
 enum { REGION_LOG = 3, WORDS = 16, ROOTS = 1 };
 
-/* The header of an object of `size` words, this one included, of which the next `references` are references. */
-static uint64_t header(uint64_t size, uint64_t references) { return UINT64_C(1) << 56 | references << 32 | size; }
+/* The header of an object of `size` words, this one included, of which the next `references` are references: below 2^24. */
+static uint64_t header(uint64_t size, uint64_t references) { return (UINT64_C(1) << 56) + (references << 32) + size; }
 
 static uint64_t reference(uint64_t address) { return 1 + address; }
 

@@ -1,11 +1,12 @@
 #include "toy_heap.h"
 #include <pcompact.h>
 #include <pthread.h>
+#include <sched.h>
 #include <stdio.h>
 #include <stdlib.h>
 #include <string.h>
 
-enum { REGION_LOG = 9 };
+enum { REGION_LOG = 9, TURNS = 64 };
 
 static void fail(const char *why) {
     fprintf(stderr, "toy heap: %s\n", why);
@@ -26,9 +27,14 @@ void toy_heap_free(toy_heap *heap) {
     free(heap->roots);
 }
 
-/* One thread's part. Whatever goes wrong, the end tells. */
+/* One thread's part. Where no region is ready another thread has to go on, maybe on this processor. Whatever goes wrong, the end
+ * tells. */
 static void *work(void *handle) {
-    pcompact_work_all(handle);
+    uint32_t state;
+    do {
+        state = pcompact_work(handle, TURNS);
+        if (state == PCOMPACT_NONE_READY) sched_yield();
+    } while (state == PCOMPACT_NONE_READY || state == PCOMPACT_TURNS_USED);
     return NULL;
 }
 
@@ -64,11 +70,12 @@ static void collect(toy_heap *heap) {
 }
 
 value toy_new(toy_heap *heap, size_t references, size_t data) {
+    if (references > TOY_MAX_REFERENCES) fail("an object has too many references");
     size_t size = 1 + references + data;
     if (heap->collects_always || size > heap->word_count - heap->top) collect(heap);
     if (size > heap->word_count - heap->top) fail("it is full");
     uint64_t *object = heap->words + heap->top;
-    object[0] = UINT64_C(1) << 56 | (uint64_t)references << 32 | size;
+    object[0] = (UINT64_C(1) << 56) + ((uint64_t)references << 32) + size;
     memset(object + 1, 0, sizeof *object * (size - 1));
     heap->top += size;
     return 1 + (uint64_t)(object - heap->words);

@@ -12,7 +12,8 @@ typedef uint64_t value;
 /* A place on the stack of roots. */
 typedef size_t slot;
 
-enum { TOY_MAX_THREADS = 64 };
+/* The most references of an object are what the library's headers have room for. */
+enum { TOY_MAX_THREADS = 64, TOY_MAX_REFERENCES = (1 << 24) - 1 };
 
 typedef struct toy_heap {
     uint64_t *words; /* the heap, from address 0 up */
@@ -31,8 +32,8 @@ toy_heap toy_heap_new(size_t word_count, size_t root_room);
 
 void toy_heap_free(toy_heap *heap);
 
-/* Makes an object with `references` references, all null, and `data` words of data, all 0. It ends the process if the heap is
- * full even after a collection. */
+/* Makes an object with `references` references, all null, and `data` words of data, all 0. It ends the process if these are more
+ * references than TOY_MAX_REFERENCES, or the heap is full even after a collection. */
 value toy_new(toy_heap *heap, size_t references, size_t data);
 
 /* The references of an object. */

@@ -46,7 +46,7 @@ BASH_ROWS = [
     ("pcompact upgrade --to ", "2 3"),
     ("pcompact generate --region-log 1", "10 11 12 13 14 15 16 17 18 19"),
     ("pcompact generate --seed ", "-"),
-    ("pcompact board ", "-h --help"),
+    ("pcompact board ", "--steps -h --help"),
     ("pcompact sweep --x", ""),
 ]
 FILES = ["a heap.pcheap", "folder", "heap.pcheap"]

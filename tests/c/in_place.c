@@ -267,6 +267,32 @@ static void refuse_regions(void) {
     free(words);
 }
 
+/* With a live list a heap has at most 4194304 words. A larger one is taken with a root for each object. */
+static void refuse_words(void) {
+    const size_t most = (size_t)1 << 22;
+    const pcompact_settings regions = {9, 0};
+    uint64_t *words = calloc(2 * most, sizeof *words), live = 8, root = 9;
+    pcompact_answer answer;
+    if (!words) exit(2);
+    words[8] = (UINT64_C(1) << 56) + 2;
+    words[9] = 77;
+    check(pcompact_collect_in_place(words, 2 * most, &live, 1, regions, &answer) == 4 && live == 8, "too many words", 4);
+    check(pcompact_collect_in_place_rooted(words, 2 * most, &root, 1, regions, &answer) == 0, "as many with a root", 0);
+    check(root == 1 && words[1] == 77 && words[9] == 0, "where it went", (size_t)root);
+    live = 0;
+    check(pcompact_collect_in_place(words, most, &live, 1, regions, &answer) == 0, "as many words as there may be", 0);
+    free(words);
+}
+
+/* One reference more than an object may have makes a header of another kind, where it is a sum. */
+static void refuse_references(void) {
+    uint64_t words[8] = {(UINT64_C(1) << 56) + (UINT64_C(1) << 24 << 32) + 8}, live = 0, root = 1;
+    const pcompact_settings regions = {3, 0};
+    pcompact_answer answer;
+    check(pcompact_collect_in_place(words, 8, &live, 1, regions, &answer) == 7, "too many references", 7);
+    check(pcompact_collect_in_place_rooted(words, 8, &root, 1, regions, &answer) == 7, "too many references, with a root", 7);
+}
+
 /* Each word is an object that lives, so the list is as long as the words. */
 static void collect_full(bool is_rooted) {
     found = before[is_rooted];
@@ -344,6 +370,8 @@ int main(void) {
     refuse_begins(1);
     refuse_ends();
     refuse_regions();
+    refuse_words();
+    refuse_references();
     collect_full(false);
     collect_full(true);
     check(blocks_held == 0, "a block is left in all", (size_t)blocks_held);

@@ -25,6 +25,25 @@ from tests.support.program import Answer, Tried, differs, fault, usage
 FULL = pathlib.Path("/dev/full")
 FAULT_13 = "13 input or output"
 
+BOARD_REPORT = "".join(f"region {r} claims 1 completions 1\n" for r in range(3)) + "all settled\n"
+# Region 0 takes words of 1, and 1 of 2. Worker 0 makes two calls, then worker 1 one, and so on, while they have any.
+BOARD_STEPS = """\
+worker 0 claims 0: yes
+worker 0 drains 1 into 0: last, nothing is pending on 1
+worker 1 claims 0: no, claimed already
+worker 0 completes 0: ok
+worker 0 settles 0: more
+worker 1 claims 1: yes
+worker 0 claims 1: no, claimed already
+worker 0 claims 2: no, pending: 2 into 1
+worker 1 drains 2 into 1: last, nothing is pending on 2
+worker 1 completes 1: ok
+worker 1 settles 1: more
+worker 1 claims 2: yes
+worker 1 completes 2: ok
+worker 1 settles 2: all
+"""
+
 def try_words(tried: Tried) -> None:
     """Words that are no command."""
     tried.run("", usage("error: 'pcompact' requires a subcommand but one was not provided\n"))
@@ -76,19 +95,27 @@ def try_help(tried: Tried) -> None:
                   "text --help", "assemble --help", "map --help", "timeline --help",
                   "help help"):
         tried.run(words, Answer(0, None))
-    tried.run("board", Answer(0, "".join(f"region {r} claims 1 completions 1\n" for r in range(3)) + "all settled\n"))
+
+
+def try_board(tried: Tried) -> None:
+    tried.run("board", Answer(0, BOARD_REPORT))
+    tried.run("board --steps", Answer(0, BOARD_STEPS + BOARD_REPORT))
+    tried.run("board --steps --steps", usage("error: the argument '--steps' cannot be used multiple times\n"))
+    tried.run("summary base --steps", usage("error: unexpected argument '--steps' found\n"))
 
 
 def try_workers(tried: Tried) -> None:
     nothing = {"out": None}
     for workers in ("1", "2", "4", "64"):
         tried.run(f"collect base out --workers {workers}", Answer(0, COLLECTED, made={"out": COMPACTED}))
-        tried.run(f"record base out schedule --workers {workers}", Answer(0, COLLECTED, made={"out": COMPACTED}))
-        tried.run("replay base schedule", Answer(0, tried.read("schedule").decode() + "finished\n"))
+        for turns in ("", " --turns"):
+            tried.run(f"record base out schedule --workers {workers}{turns}", Answer(0, COLLECTED, made={"out": COMPACTED}))
+            tried.run("replay base schedule", Answer(0, tried.read("schedule").decode() + "finished\n"))
     tried.run("collect --workers=2 base out", Answer(0, COLLECTED, made={"out": COMPACTED}))
     for workers in ("0", "65", "4294967295"):
         tried.run(f"collect base out --workers {workers}", fault("12 workers", nothing))
         tried.run(f"record base out schedule --workers {workers}", fault("12 workers", nothing))
+        tried.run(f"record base out schedule --workers {workers} --turns", fault("12 workers", nothing))
     for workers, said in (("abc", "invalid value 'abc' for '--workers <n>': a whole number is wanted"),
                           ("1.5", "invalid value '1.5' for '--workers <n>': a whole number is wanted"),
                           ("", "invalid value '' for '--workers <n>': cannot parse integer from empty string"),
@@ -631,7 +658,7 @@ def try_devices(tried: Tried) -> None:
         tried.run("board", dataclasses.replace(Answer(0), out=None), stderr=full)
 
 
-GROUPS = (try_words, try_flags, try_help, try_workers, try_images, try_malicious_images, try_beginnings, try_which_fault,
+GROUPS = (try_words, try_flags, try_help, try_board, try_workers, try_images, try_malicious_images, try_beginnings, try_which_fault,
           try_collections, try_holes, try_upgrades, try_verdicts, try_malformed_schedules, try_refused_schedules,
           try_edited_schedules, try_open_replies, try_files, try_kept, try_unfilled, try_names, try_unreadable, try_devices)
 

@@ -267,8 +267,9 @@ def hashed_alike(count: int) -> collections.abc.Iterator[int]:
 
 
 def try_dear(tried: Imports) -> None:
-    """Dumps of 16 MB that were made to be dear: each is done in 2 seconds of processor time, and in memory of 3 times its size
-    and 64 MiB."""
+    """Dumps of 16 MB that were made to be dear: each is done in 2 seconds of processor time, or on a slow machine in 8 times what
+    the first takes, and in memory of 3 times its size and 64 MiB."""
+    seconds = 2.0
     for name, heap in dear_dumps(16_000_000):
         dump = tried.folder / "dump"
         dump.write_bytes(dump_writer.Writer(4).record(0x0C, heap).text())
@@ -276,9 +277,11 @@ def try_dear(tried: Imports) -> None:
         for words in ([], ["--live-only"]):
             taken = measured([tried.program, "import", dump, tried.folder / "image", *words], SECONDS,
                              stdout=subprocess.DEVNULL, stderr=subprocess.DEVNULL)
-            tried.note(taken.status in (0, 1) and taken.processor < 2 and taken.memory <= most, f"{name} {words}",
+            tried.note(taken.status in (0, 1) and taken.processor < seconds and taken.memory <= most, f"{name} {words}",
                        f"status {taken.status}, {taken.processor:.2f} s of processor time, {taken.memory >> 20} MiB, "
                        f"{most >> 20} are the most")
+            if name.endswith("ids ascend"):
+                seconds = max(seconds, 8 * taken.processor)
 
 
 def objects_from(image: bytes, described: list[str]) -> str:

@@ -245,7 +245,8 @@ def try_drawings(tried: Tried) -> None:
         tried.is_wrong("without colours two patterns look alike")
     texts = [text.text for text in root.iter(f"{SVG}text")]
     for name in ("prefix with fillers", "moving", "free", "none lives", "few", "half", "most", "all live", "image",
-                 "end of the dense prefix", "top after the collection", "0.0 MiB"):
+                 "end of the dense prefix", "top after the collection", "0.0 KiB", "32 words, 0.0 MiB: 19 live, 59.4 per cent; 13 dead",
+                 "dense prefix ends at 8, new top is 21; 3 regions to fill"):
         if name not in texts:
             tried.is_wrong(f"a drawing has no text {name}")
     if "prefix" in texts:
@@ -253,6 +254,7 @@ def try_drawings(tried: Tried) -> None:
     if marks_of(root) != ["prefix end: word 8", "new top: word 21"] * 2:
         tried.is_wrong(f"a drawing has other marks: {marks_of(root)}")
     try_full_heap(tried)
+    try_no_prefix(tried)
 
 
 def marks_of(root: xml.etree.ElementTree.Element) -> list[str]:
@@ -267,9 +269,79 @@ def try_full_heap(tried: Tried) -> None:
     tried.write("full", full)
     tried.run("map full --svg drawn --width 4 --height 2", Answer(0, collection.map_line()))
     marks = marks_of(drawing(tried, "drawn"))
-    if marks != [f"prefix end: word {collection.prefix_end}", "new top: word 32"]:
+    if marks != [f"prefix end: word {collection.prefix_end}"] * (collection.prefix_end > 0) + ["new top: word 32"]:
         tried.is_wrong(f"the drawing of a full heap has other marks: {marks}")
     tried.run("map full --after --letters --width 4 --height 2", Answer(0, collection.map(4, True, 2)))
+
+
+def texts_of(root: xml.etree.ElementTree.Element) -> list[str]:
+    """The texts of a drawing, with those of its legend."""
+    return [text.text for text in root.iter(f"{SVG}text")]
+
+
+def try_no_prefix(tried: Tried) -> None:
+    """A dense prefix that ends at 0 has neither a mark nor a line of the legend."""
+    tried.write("image", image(WORDS, LIVE, 0))
+    tried.run("map image --svg drawn --width 4 --height 1", Answer(0, None))
+    root = drawing(tried, "drawn")
+    texts = texts_of(root)
+    if marks_of(root) != ["new top: word 19"] or "end of the dense prefix" in texts or "top after the collection" not in texts:
+        tried.is_wrong(f"the drawing of a heap without a dense prefix has other marks: {marks_of(root)}, or another legend")
+    if "no dense prefix, new top is 19; 3 regions to fill" not in texts:
+        tried.is_wrong("a drawing says otherwise that there is no dense prefix")
+
+
+# The words of a heap and the words of a region, and the labels of its rows: KiB below 10 MiB, then MiB.
+LABELS = (
+    (32, 3, ["0.0 KiB", "0.1 KiB", "0.1 KiB", "0.2 KiB"]),
+    (57344, 9, ["0.0 KiB", "112.0 KiB", "224.0 KiB", "336.0 KiB"]),
+    (2097152, 16, ["0.0 KiB", "4096.0 KiB", "8192.0 KiB", "12.0 MiB"]),
+)
+
+
+def try_labels(tried: Tried) -> None:
+    """The addresses of rows: their units, and that they stand beside the rows and inside the drawing, as wide as they are."""
+    for words, region_log, labels in LABELS:
+        tried.run(f"generate heap --words {words} --live 50 --region-log {region_log} --seed 5", Answer(0, None))
+        tried.run("map heap --svg drawn --width 8 --height 4", Answer(0, None))
+        root = drawing(tried, "drawn")
+        found = [text.text for text in root.iter(f"{SVG}text") if re.fullmatch(r"[\d.]+ [KM]iB", text.text)]
+        if found != labels:
+            tried.is_wrong(f"the rows of {words} words have the labels {found}")
+        try_margins(tried, root)
+    # Addresses of eight digits.
+    tried.run("generate heap --version 3 --words 10485760 --live 5 --region-log 16 --seed 5", Answer(0, None))
+    tried.run("map heap --svg drawn --width 8", Answer(0, None))
+    try_margins(tried, drawing(tried, "drawn"))
+
+
+def try_margins(tried: Tried, root: xml.etree.ElementTree.Element) -> None:
+    """Nine points a digit, as wide as common fonts have them, are beside the rows."""
+    wide = int(root.get("viewBox").split()[2])
+    row = next(group for group in root.iter(f"{SVG}g") if group.find(f"{SVG}rect/{SVG}title") is not None)
+    left = int(re.match(r"translate\((\d+),", row.get("transform"))[1])
+    end = left + sum(float(rect.get("width")) for rect in row.iter(f"{SVG}rect"))
+    tried.count += 1
+    for text in root.iter(f"{SVG}text"):
+        at, name = int(text.get("x")), text.text
+        if text.get("text-anchor") == "end" and not (0 < at - 9 * len(name) and at < left):
+            tried.is_wrong(f"a drawing has no room for the address {name} left of its rows, which begin at {left}")
+        if re.fullmatch(r"[\d.]+ [KM]iB", name) and not (end < at and at + 9 * len(name.split(".")[0]) + 42 < wide):
+            tried.is_wrong(f"a drawing has no room for {name} right of its rows, which end at {end}")
+
+
+def try_rounding(tried: Tried) -> None:
+    """The figures of a drawing are rounded as those of `--stats`: 0.46 MiB are 0.5."""
+    tried.run("generate heap --words 60000 --live 37 --region-log 3 --seed 5", Answer(0, None))
+    tried.run("map heap --svg drawn", Answer(0, None))
+    heap = model.decode(tried.read("heap"))
+    live = len(model.Collection(heap).owner)
+    tenths = (live * 2000 + 60000) // 120000
+    shown = f"60000 words, 0.5 MiB: {live} live, {tenths // 10}.{tenths % 10} per cent; {60000 - live} dead"
+    stats = subprocess.run([tried.program, "collect", "heap", "out", "--workers", "1", "--stats"], cwd=tried.folder, capture_output=True, text=True, check=False).stderr
+    tried.count += 1
+    if shown not in texts_of(drawing(tried, "drawn")) or "pcompact: heap 0.5 MiB, " not in stats:
+        tried.is_wrong(f"the figures of a drawing aren't {shown}, or not those of {stats}")
 
 
 def try_contrast(tried: Tried) -> None:
@@ -400,7 +472,7 @@ def try_files(tried: Tried) -> None:
         "pcompact: reason no such file or folder\n")))
 
 
-GROUPS = (try_rows, try_words, try_looks, try_terminal, try_sizes, try_drawings, try_contrast, try_names, try_large_drawings, try_most_regions, try_files)
+GROUPS = (try_rows, try_words, try_looks, try_terminal, try_sizes, try_drawings, try_labels, try_rounding, try_contrast, try_names, try_large_drawings, try_most_regions, try_files)
 
 if __name__ == "__main__":
     sys.exit(try_groups(GROUPS))

@@ -9,6 +9,7 @@ last line but one says which.
 """
 import argparse
 import collections
+import html.parser
 import pathlib
 import random
 import re
@@ -120,6 +121,7 @@ DRAWING_COLOURS = [
     ("text", "page", 4.5), ("text", "e", 4.5), ("text", "o", 4.5), ("e", "o", 1.5), ("lane", "e", 1.2), ("lane", "o", 1.25),
     ("lane", "s1", 1.25), ("s1", "s2", 1.4), ("s2", "s3", 1.6), ("s3", "s4", 1.6),
 ]
+COPIED = "Allowed: it claimed the region, and at least so many words were unwritten."
 # Of some lines of the first one what a page says.
 WORDS_OF = {
     1: ["Nothing has happened yet.", "The heap has 4 regions, of which 3 are to be filled."],
@@ -130,17 +132,26 @@ WORDS_OF = {
     6: ["Worker 1 looks at region 1: it is to be filled and unclaimed, and one region has still to read it.", "A look is always allowed, and changes nothing."],
     7: ["Worker 1 looks at region 3: it isn't to be filled, and 2 regions have still to read it.", "A look is always allowed, and changes nothing."],
     8: ["Worker 1 asks whether all is settled: no, 3 regions are not.", "A poll is always allowed."],
-    10: ["Worker 0 writes 3 words of region 0; 8 are written now.", "Allowed: it claimed the region, and at least so many words were unwritten."],
+    9: ["Worker 0 copies 5 words of region 0 from region 0 itself; written now: 5.", COPIED],
+    10: ["Worker 0 copies 3 words of region 0 from regions 0 and 1; written now: 8.", COPIED],
     11: ["Worker 0 has copied all that region 0 takes from region 1. It was the last: region 1 is free. Worker 1 claims it in line 13.",
          "Allowed: worker 0 claimed region 0, had not completed it, and this pair was pending."],
     14: ["Worker 0 completes region 0.", "Allowed: it claimed the region, has written all its words, and has drained all that it takes from others."],
     17: ["Worker 0 settles region 0: 2 are still to be settled.", "Allowed: it claimed the region and has completed it."],
+    19: ["Worker 1 copies 3 words of region 1 from region 3; written now: 8.", COPIED],
     20: ["Worker 1 has copied all that region 1 takes from region 3. Region 2 has still to read it.",
          "Allowed: worker 1 claimed region 1, had not completed it, and this pair was pending."],
     24: ["Worker 0 has copied all that region 2 takes from region 3. It was the last: region 3 is free. It isn't to be filled, so nobody claims it.",
          "Allowed: worker 0 claimed region 2, had not completed it, and this pair was pending."],
     27: ["Worker 0 settles region 2: all regions to be filled are settled.", "Allowed: it claimed the region and has completed it."],
 }
+# And what it says that each worker does.
+DOES_IN = {
+    1: ["has no region in hand", "has no region in hand"], 2: ["has claimed region 0", "has no region in hand"],
+    9: ["fills region 0", "has no region in hand"], 14: ["has filled region 0", "has claimed region 1"],
+    16: ["has filled region 0", "fills region 1"], 27: ["has no region in hand", "has no region in hand"],
+}
+FILLS = ["2 regions, 11 words", "1 region, 8 words"]
 
 
 def interleaved(collection: model.Collection, workers: int, chance: random.Random) -> Schedule:
@@ -248,7 +259,7 @@ def try_open(tried: Tried) -> None:
         tried.is_wrong("the drawing of a schedule that ends early has other titles, or another end")
     tried.run("timeline base schedule --html page", Answer(0, figures))
     page = tried.read("page").decode()
-    for text in ('id="moves">\nregions 4 filled 3\n0 1\n1 2\n1 3\n2 3\n</script>', "\nschedule 1 2\n0 claim 0 yes\n",
+    for text in ('id="moves">\nregions 4 filled 3 prefix 0\n0 0 6\n0 1 8\n1 1 1\n1 2 5\n1 3 8\n2 3 3\n</script>', "\nschedule 1 2\n0 claim 0 yes\n",
                  "\n1 claim 1 yes\n"):
         if text not in page:
             tried.is_wrong(f"the page of a schedule that ends early lacks {text!r}")
@@ -333,6 +344,8 @@ def try_drawing(tried: Tried, timeline: Timeline) -> None:
             tried.is_wrong("a drawing has other shares")
         if bars or freeings:
             tried.is_wrong("a drawing has bars beside shares")
+        if told_of_workers(root) != told_right(timeline):
+            tried.is_wrong("a drawing tells otherwise what workers fill and when they are idle")
         return
     if bars != sorted(bar_title(bar) for bar in timeline.bars):
         tried.is_wrong("a drawing has other bars")
@@ -342,12 +355,46 @@ def try_drawing(tried: Tried, timeline: Timeline) -> None:
     for group in root.iter(f"{SVG}g"):
         if group.find(f"{SVG}title") is not None and wrong_look(group):
             tried.is_wrong(f"a drawing shows {group.find(f'{SVG}title').text} by {wrong_look(group)}")
-    legend = " ".join(text.text for text in root.iter(f"{SVG}text"))
-    for name in ("being filled", "completed, not settled yet", "a drain frees a region", "lines of the schedule, not time", "Heap heap, schedule schedule"):
+    texts = [text.text for text in root.iter(f"{SVG}text")]
+    legend = " ".join(texts)
+    for name in ("lines of the schedule, not time", "Heap heap, schedule schedule"):
         if name not in legend:
             tried.is_wrong(f"a drawing has no legend for {name}")
+    if [text for text in texts if text in LEGENDS] != legend_of(timeline):
+        tried.is_wrong(f"a drawing has another legend: {[text for text in texts if text in LEGENDS]}")
     if (f"Of each {every} drains that freed a region one is shown." in legend) != (every > 1):
         tried.is_wrong(f"a drawing of {len(timeline.freeings)} freed regions says otherwise how many it leaves out")
+
+
+# The kinds of bars and marks that a drawing may explain.
+LEGENDS = (
+    "being filled (even region)", "odd region", "being filled (odd region)", "completed, not settled yet", "a drain frees a region",
+    "a drain frees a region; a dashed line leads to who takes it",
+)
+LINKED = 40
+
+
+def legend_of(timeline: Timeline) -> list[str]:
+    """The legend of what is drawn of a schedule, and of nothing else."""
+    even, odd = (any(bar.region % 2 == rest for bar in timeline.bars) for rest in (0, 1))
+    names = ["being filled (even region)"] * even + ["odd region" if even else "being filled (odd region)"] * odd
+    names += ["completed, not settled yet"] * any(bar.completed for bar in timeline.bars)
+    links = len(timeline.freeings) <= LINKED and any(freeing.taken for freeing in timeline.freeings)
+    return names + [LEGENDS[5 if links else 4]] * bool(timeline.freeings)
+
+
+def told_of_workers(root: xml.etree.ElementTree.Element) -> list[str]:
+    """What stands below the lanes."""
+    return [text.text for text in root.iter(f"{SVG}text") if text.get("class") == "t"]
+
+
+def told_right(timeline: Timeline) -> list[str]:
+    """What each worker fills, and when it is idle."""
+    told = []
+    for worker in range(timeline.schedule.workers):
+        regions, words = timeline.filled(worker)
+        told += [f"regions filled: {regions}, words: {words}", timeline.idle(worker)]
+    return told
 
 
 def wrong_look(group: xml.etree.ElementTree.Element) -> list[str]:
@@ -400,6 +447,52 @@ def page_of(tried: Tried, figures: str | None) -> str:
     return page
 
 
+class Controls(html.parser.HTMLParser):
+    """The names that a screen reader has of the controls of a page, and where it is told what a page says."""
+
+    def __init__(self, page: str):
+        super().__init__()
+        self.names: list[str] = []
+        self.live: list[str] = []
+        # The text of the label or button that is open.
+        self.text: str | None = None
+        self.feed(page)
+
+    def handle_starttag(self, tag: str, attrs: list[tuple[str, str | None]]) -> None:
+        has = dict(attrs)
+        if "aria-live" in has:
+            self.live.append(has.get("id", ""))
+        if tag in ("button", "label"):
+            self.text = ""
+        if tag in ("button", "input", "select"):
+            self.names.append(has.get("aria-label") or self.text or "")
+
+    def handle_endtag(self, tag: str) -> None:
+        if tag in ("button", "label"):
+            self.text = None
+
+    def handle_data(self, data: str) -> None:
+        if self.text is not None:
+            self.text += data
+            if self.names and not self.names[-1]:
+                self.names[-1] = data
+
+
+def try_controls(tried: Tried, page: str) -> None:
+    """Each control of a page has a name of its own, and what a line says is told."""
+    controls = Controls(part_of_body(page))
+    tried.count += 1
+    if len(controls.names) < 15 or len(set(controls.names)) < len(controls.names) or "" in controls.names:
+        tried.is_wrong(f"the controls of a page are called {controls.names}")
+    if "said" not in controls.live or "Keys: space plays and pauses; left and right" not in page:
+        tried.is_wrong("a page doesn't tell what a line says, or which keys it has")
+
+
+def part_of_body(page: str) -> str:
+    """The body of a page without its scripts."""
+    return page.split("<body>")[1].split("<script")[0]
+
+
 def try_pages(tried: Tried) -> None:
     """What pages show of given lines, and what their words and keys do."""
     tried.write("heap", image(WORDS, LIVE, 0))
@@ -420,7 +513,15 @@ def try_pages(tried: Tried) -> None:
         tried.count += 1
         if found.get("words", {}).get(str(line)) != words:
             tried.is_wrong(f"of line {line} a page says {found.get('words', {}).get(str(line))}")
+    for line, does in DOES_IN.items():
+        tried.count += 1
+        if found.get("workers", {}).get(str(line)) != does:
+            tried.is_wrong(f"in line {line} a page says of workers {found.get('workers', {}).get(str(line))}")
+    if found.get("filled") != FILLS:
+        tried.is_wrong(f"a page says that workers fill {found.get('filled')}")
+    try_controls(tried, page)
     shown_right(tried, found, machine, schedule)
+    try_prefix(tried)
     chance = random.Random(5)
     for wanted in (Wanted(4096, 6, 60, 25, 2, 900, 3), Wanted(8192, 3, 60, 25, 1, 0, 4)):
         heap, _ = generated(wanted)
@@ -435,6 +536,17 @@ def try_pages(tried: Tried) -> None:
         if said or len(found.get("states", {})) != len(set(lines)):
             tried.is_wrong(f"a page of {wanted} fails: {said}")
         shown_right(tried, found, Machine(collection), schedule)
+
+
+def try_prefix(tried: Tried) -> None:
+    """A region of the dense prefix keeps its words, which come from no other region."""
+    tried.write("heap", image(WORDS, LIVE, 2))
+    tried.write("schedule", "schedule 1 1\n0 claim 0 yes\n0 copy 0 8 ok\n")
+    found, said = run_page(page_of(tried, None), {"lines": [3], "keys": []}, tried.folder)
+    tried.count += 1
+    words = ["Worker 0 leaves 8 words of region 0 where they are, dead ones as fillers; written now: 8.", COPIED]
+    if said or found.get("words", {}).get("3") != words:
+        tried.is_wrong(f"of a region of the dense prefix a page says {found.get('words')}; {said}")
 
 
 def try_large(tried: Tried) -> None:

@@ -47,13 +47,14 @@ Exit status:
 BOARD_HELP = """\
 Schedule three regions among two workers, and count claims and completions
 
-Usage: pcompact board
+Usage: pcompact board [OPTIONS]
 
 Options:
-  -h, --help  Print help
+      --steps  Print the calls of one order first, with their answers
+  -h, --help   Print help
 
 Example:
-  pcompact board
+  pcompact board --steps
 """
 
 SUMMARY_HELP = """\
@@ -112,6 +113,7 @@ Arguments:
 
 Options:
       --workers <n>     Number of worker threads, from 1 to 64
+      --turns           Let workers take turns, so that each has some of the work
       --region-log <k>  Read IMAGE as if its regions had 2^k words, k from 3 to 20
       --allowance <m>   Read IMAGE as if its dense prefix might keep m dead words
       --atomic          Replace files only once the command has succeeded
@@ -384,7 +386,7 @@ For more information, try '--help'.
 EXTRA_WORD = """\
 error: unexpected argument 'twice' found
 
-Usage: pcompact board
+Usage: pcompact board [OPTIONS]
 
 For more information, try '--help'.
 """

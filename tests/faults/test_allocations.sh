@@ -134,6 +134,7 @@ over() {
 }
 
 each board
+each board --steps
 each --help
 each --version
 each help board

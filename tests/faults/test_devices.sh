@@ -129,6 +129,7 @@ over() {
 }
 
 each board
+each board --steps
 each --help
 each boar
 dump=$top/examples/dumps/four.hprof

@@ -78,6 +78,7 @@ head -c 100 "$base" >"$room/cut"
 dump=$top/examples/dumps/four.hprof
 head -c 300 "$dump" >"$room/cut_dump"
 each board
+each board --steps
 each --help
 each boar
 each summary "$base"

@@ -1,6 +1,6 @@
 #!/usr/bin/env python3
-"""How many threads a collection starts in each of its phases, by the number of workers; that those of `record` begin together, and
-don't wait long for threads that can't be started; and that none gives up where others are in its way.
+"""How many threads a collection starts in each of its phases, by the number of workers; that those of `record` begin together, take
+turns with `--turns`, and don't wait long for threads that can't be started; and that none gives up where others are in its way.
 
 A phase is shared by as many threads as there are workers, unless the heap is too small for all to be worth it: the
 first thread starts the others, and in most phases one more that does nothing. Over each heap below just one phase has
@@ -13,6 +13,7 @@ usage: tests/faults/test_threads.py [PROGRAM]      (needs a C compiler)
 """
 import array
 import dataclasses
+import itertools
 import os
 import pathlib
 import re
@@ -97,6 +98,8 @@ HEAPS = (
 # Its regions are ready at once, and so few that one thread fills all of them while another is started.
 READY = Heap("ready", Phase("none", 1), 1, 3, 512, objects=64, size=8)
 RECORDINGS = 20
+# Here a fill often frees just one region, which the next worker is to take.
+CHAINED = "--words 4096 --live 90 --region-log 6 --seed 1"
 
 # In a heap of this number of regions of eight words workers often open one at once, and some then have to try again.
 CONTENDED = "--words 131072 --live 97 --region-log 3 --seed 3"
@@ -204,12 +207,29 @@ class Counted:
             self.wrong += 1
             print(f"in {shared} of {RECORDINGS} recordings by 4 workers several have a share")
 
+    def try_turns(self) -> None:
+        """With `--turns` each worker of `record` has work on a small heap, by one processor as by all, and the schedule is a whole one."""
+        (self.room / READY.name).write_bytes(READY.text())
+        subprocess.run([self.program, *f"generate chained {CHAINED}".split()], check=True, cwd=self.room, stdout=subprocess.DEVNULL)
+        processors = sorted(os.sched_getaffinity(0))
+        for heap, workers, number in itertools.product((READY.name, "chained"), (1, 2, 4), {1, len(processors)}):
+            self.count += 1
+            allowed = set(processors[:number])
+            subprocess.run([self.program, *f"record {heap} out schedule --turns --workers {workers}".split()], check=True, cwd=self.room,
+                           stdout=subprocess.DEVNULL, preexec_fn=lambda: os.sched_setaffinity(0, allowed))
+            claims = re.findall(r"(?m)^(\d+) claim \d+ yes$", (self.room / "schedule").read_text())
+            replayed = subprocess.run([self.program, "replay", heap, "schedule"], cwd=self.room, capture_output=True, text=True)
+            if len(set(claims)) != workers or not replayed.stdout.endswith("finished\n"):
+                self.wrong += 1
+                print(f"record {heap} --turns by {number} processors: only {sorted(set(claims))} of {workers} workers have work, "
+                      f"replay says {replayed.stdout[-20:]!r} {replayed.stderr!r}")
+
     def try_refused(self) -> None:
         """Where threads can't be started, `record` doesn't wait long for them, and its schedule is a whole one."""
         (self.room / READY.name).write_bytes(READY.text())
-        for threads in range(3):
+        for threads, turns in itertools.product(range(3), ("", " --turns")):
             self.count += 1
-            words = f"record {READY.name} out schedule --workers 3".split()
+            words = f"record {READY.name} out schedule --workers 3{turns}".split()
             begun = time.monotonic()
             done = subprocess.run(["sh", "-c", 'exec "$@" 3>/dev/null', "sh", self.program, *words], cwd=self.room,
                                   env={**os.environ, "LD_PRELOAD": str(self.notes), "THREADS": str(threads)},
@@ -218,7 +238,7 @@ class Counted:
             replayed = subprocess.run([self.program, "replay", READY.name, "schedule"], cwd=self.room, capture_output=True, text=True)
             if done.returncode or taken > MOST_SECONDS or not replayed.stdout.endswith("finished\n"):
                 self.wrong += 1
-                print(f"record with {threads} threads: {taken:.1f} s, {done.stderr!r}, replay says {replayed.stdout!r}")
+                print(f"record{turns} with {threads} threads: {taken:.1f} s, {done.stderr!r}, replay says {replayed.stdout!r}")
 
     def try_contended(self) -> None:
         """However often workers are in each other's way, each collection ends well, and alike."""
@@ -241,6 +261,7 @@ def main() -> int:
         for heap in HEAPS:
             counted.try_heap(heap)
         counted.try_together()
+        counted.try_turns()
         counted.try_refused()
         counted.try_contended()
     print(f"{counted.count - counted.wrong} passed, {counted.wrong} failed")

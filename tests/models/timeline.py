@@ -83,6 +83,26 @@ class Timeline:
         kinds = set(found) - ({"c"} if "t" in found else set())
         return " " if not kinds else kinds.pop() if len(kinds) == 1 else "x"
 
+    def filled(self, worker: int) -> tuple[int, int]:
+        """How many regions a worker completes, and how many words it writes."""
+        return (sum(bar.worker == worker and bar.completed is not None for bar in self.bars),
+                sum(line.numbers[1] for line in self.schedule.lines if (line.worker, line.event) == (worker, "copy")))
+
+    def idle(self, worker: int) -> str:
+        """In which lines a worker has no region in hand, as a drawing says it."""
+        held = {k for bar in self.bars if bar.worker == worker for k in range(bar.claimed, (bar.settled or self.last) + 1)}
+        parts = []
+        for k in (k for k, _ in self.numbered if k not in held):
+            if parts and parts[-1][-1] == k - 1:
+                parts[-1].append(k)
+            else:
+                parts.append([k])
+        if not parts:
+            return "never idle"
+        longest = max(parts, key=len)
+        where = f"from line {longest[0]} to {longest[-1]}"
+        return f"idle {where}" if len(parts) == 1 else f"idle in {sum(map(len, parts))} of {len(self.numbered)} lines, longest {where}"
+
     def text(self, width: int) -> str:
         rows = []
         for worker in range(self.schedule.workers):

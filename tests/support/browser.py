@@ -10,7 +10,7 @@ import subprocess
 BROWSERS = ("chromium", "chromium-browser", "google-chrome")
 # What is done with a page: lines are shown, keys pressed, and each time it is told what the page shows.
 DRIVER = """
-const found = { states: {}, keys: [], words: {} };
+const found = { states: {}, keys: [], words: {}, workers: {}, filled: timeline.filled };
 const id = (name) => document.getElementById(name);
 const shown = () => ({
   line: timeline.line(),
@@ -24,6 +24,7 @@ for (const line of WANTED.lines) {
   timeline.show(line);
   found.states[line] = { ...shown(), told: timeline.stateAt(line) };
   found.words[line] = [id('what').textContent, id('why').textContent];
+  found.workers[line] = timeline.workers();
 }
 timeline.show(1);
 for (const key of WANTED.keys) {
@@ -58,7 +59,7 @@ DOCUMENT = """
 const listeners = {};
 const made = () => ({ textContent: '', className: '', dataset: {}, style: {}, value: '', children: [], parentNode: {},
   set innerHTML(html) { this.children = (html.match(/<(i|li)[ >]/g) || []).map(made); this.html = html; },
-  querySelectorAll() { return this.children.map(made); }, addEventListener() {} });
+  querySelectorAll() { return this.children.map(made); }, setAttribute() {}, addEventListener() {} });
 const elements = new Map();
 globalThis.document = {
   getElementById: (id) => elements.get(id) || elements.set(id, made()).get(id),

@@ -3,6 +3,7 @@
 //! [`sweep_with_two_workers`] makes a board of `claim_board` over three regions to be filled. Each
 //! worker claims every region in turn and fills those that it is granted: it drains their sources,
 //! completes and settles them. The result is the text that the command `board` prints.
+//! [`steps_of_two_workers`] makes the lines that `--steps` adds.
 //!
 //! # What is proved
 //!
@@ -14,13 +15,15 @@
 //!
 //! # What is only tested
 //!
-//! That each region is claimed and completed once, and that all are settled. No test shows that the
-//! workers run in threads.
+//! That each region is claimed and completed once, and that all are settled; the lines of `--steps`.
+//! No test shows that the workers run in threads.
 #![tactic(auto)]
 
 mod report;
+mod steps;
 mod sweeper;
 mod tally;
 mod two_workers;
 
+pub use steps::steps_of_two_workers;
 pub use two_workers::sweep_with_two_workers;

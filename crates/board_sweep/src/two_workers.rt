@@ -106,7 +106,7 @@ fn is_settled(alloc: Global, board: Board, first: Pass, second: Pass) -> Result<
 }
 
 /// Three regions to be filled. Region 0 takes words of region 1, and region 1 of region 2.
-fn three_regions(alloc: Global) -> Result<GivenMoves, AllocError>
+pub(crate) fn three_regions(alloc: Global) -> Result<GivenMoves, AllocError>
     ensures { IfOk result (λ moves. moves ≡ three_regions) }
 {
     let fill = Vec::from_slice(alloc, &[true, true, true])?;

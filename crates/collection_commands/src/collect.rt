@@ -28,7 +28,7 @@ where
     R::File: FileExt + SystemFile + Sync,
     ensures { IfOk result (λ done. IsFigures done.text.items) }
 {
-    let run = Run::start(rt, request.stats, request.workers);
+    let run = Run::start(rt, request.stats, request.workers, false);
     let (image, out) = image_and_out(rt, request.image, request.out, request.atomic)?;
     let out = late_file(rt, out, None, image.regular_len())?;
     collect_files(rt, &run, image.with_shape(request.shape), out, None)

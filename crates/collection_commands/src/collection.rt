@@ -26,14 +26,17 @@ pub struct Run<'h, H> {
     pub times: PhaseTimes<'h, H>,
     /// How many workers there are, 1 to 64.
     pub workers: u32,
+    /// Whether workers take turns.
+    pub turns: bool,
 }
 
 impl<'h, H: Clock> Run<'h, H> {
     /// Starts now. The clock is read only if times are wanted.
-    pub fn start(clock: &'h H, is_timed: bool, workers: u32) -> Run<'h, H> {
+    pub fn start(clock: &'h H, is_timed: bool, workers: u32, turns: bool) -> Run<'h, H> {
         Run {
             times: PhaseTimes::start(clock, is_timed),
             workers,
+            turns,
         }
     }
 

@@ -28,6 +28,7 @@ mod figures;
 mod out_file;
 pub mod record;
 mod timed_gate;
+mod turn_gate;
 pub mod verify;
 
 pub use collection::Run;

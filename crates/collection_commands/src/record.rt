@@ -6,7 +6,7 @@ ghost use Rattle.collection_commands.specs.Figures.{IsFigures, figures_line};
 
 use crate::collection::{Run, collect_files, late_file};
 use crate::figures::{FiguresLine, LINE_ROOM, with_line};
-use crate::timed_gate::TimedGate;
+use crate::turn_gate::TurnGate;
 use collector::record;
 use command_files::{
     FileTarget, Late, SystemFile, WorkDone, must_differ, output_must_differ, same_file,
@@ -32,7 +32,7 @@ where
     R::File: FileExt + SystemFile + Sync,
     ensures { IfOk result (λ done. IsFigures done.text.items) }
 {
-    let run = Run::start(rt, request.stats, request.workers);
+    let run = Run::start(rt, request.stats, request.workers, request.turns);
     let (image, out, schedule) = image_out_and_schedule(rt, &request)?;
     let image = image.with_shape(request.shape);
     let (out, schedule) = both_late(rt, out, image.regular_len(), schedule)?;
@@ -180,11 +180,11 @@ pub fn record_into<R: AllocGlobal + Threads + Wait + Clock + Sync, I: Intake, O:
     };
     let image = read_image(alloc, input, &workers)?;
     run.times.end(Phase::Check);
-    let gate = TimedGate::new(rt, run.times.watch());
+    let gate = TurnGate::new(rt, run);
     match record(alloc, image, run.workers, &gate, rt, rt) {
         Ok((outcome, schedule)) => {
             let text = write_schedule(alloc, &schedule)?;
-            gate.end_collection(&run.times);
+            gate.timed().end_collection(&run.times);
             write_image_buffered(alloc, &outcome.image, output)?;
             run.times.end(Phase::Write);
             give_all(lines, text.as_slice())?;

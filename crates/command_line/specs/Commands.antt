@@ -7,7 +7,7 @@ use Rattle.command_line.specs.Arguments.{atomic_rule, file_rule, flag_rule, json
 
 -- the definition of `board`
 abbrev pub board_words : App
-board_words = new_app (codes "board")
+board_words = with_rule (new_app (codes "board")) (flag_rule (codes "steps"))
 
 -- the option `--region-log`, with a number from 3 to 20
 abbrev pub region_log_rule : Rule
@@ -64,9 +64,9 @@ verify_words =
 -- the definition of `record`
 abbrev pub record_words : App
 record_words =
-    with_rule (with_rule (with_rule (with_rule (with_shape_rules (with_rule (with_rule (with_rule (with_rule (new_app (codes "record"))
-    (file_rule (codes "IMAGE"))) (file_rule (codes "OUT"))) (file_rule (codes "SCHEDULE"))) workers_rule)) atomic_rule) stats_rule)
-    progress_rule) verbose_rule
+    with_rule (with_rule (with_rule (with_rule (with_shape_rules (with_rule (with_rule (with_rule (with_rule (with_rule (new_app (codes "record"))
+    (file_rule (codes "IMAGE"))) (file_rule (codes "OUT"))) (file_rule (codes "SCHEDULE"))) workers_rule) (flag_rule (codes "turns"))))
+    atomic_rule) stats_rule) progress_rule) verbose_rule
 
 -- the definition of `replay`
 abbrev pub replay_words : App

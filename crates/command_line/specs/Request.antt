@@ -1,14 +1,15 @@
-use Rattle.std.specs.Prelude.{◌≡◌, ⊤, ℕ, Bool, if◌then◌else◌, Option, None, codes, false}
+use Rattle.std.specs.Prelude.{◌≡◌, ⊤, ℕ, Bool, if◌then◌else◌, Option, None, codes, false, true}
 use Rattle.clap.specs.Walk.{Text as Name}
 use Rattle.command_line.specs.declared.commands.import.Import.{Import as ImportCall}
 use Rattle.command_line.specs.declared.request.Request.{Request}
-use Rattle.command_line.specs.declared.request.Request.TheVariants.{Board, Summary, Collect, Verify, Record, Replay, Upgrade, Import, Generate, Order, Text, Assemble, Map, Timeline, Show}
+use Rattle.command_line.specs.declared.request.Request.TheVariants.{Board, BoardSteps, Summary, Collect, Verify, Record, Replay, Upgrade, Import, Generate, Order, Text, Assemble, Map, Timeline, Show}
 use Rattle.command_line.specs.declared.unread.Unread.{Unread}
 use Rattle.command_line.specs.declared.unread.Unread.TheVariants.{Usage, NoCommand, Memory}
 
 -- the request is a call of the command of this name
 abbrev pub IsFor : Name → Request → Type 0
 IsFor name Board = name ≡ codes "board"
+IsFor name BoardSteps = name ≡ codes "board"
 IsFor name (Summary call) = name ≡ codes "summary"
 IsFor name (Collect call) = name ≡ codes "collect"
 IsFor name (Verify call) = name ≡ codes "verify"
@@ -40,6 +41,11 @@ asks_json (Verify call) = call.json
 asks_json (Import call) = call.json
 asks_json (Order call) = call.json
 asks_json request = false
+
+-- the request has `--steps`
+abbrev pub asks_steps : Request → Bool
+asks_steps BoardSteps = true
+asks_steps request = false
 
 -- the most classes of the histogram that a call of `import` prints, if it prints one: a JSON object has none
 abbrev pub rows_in : ImportCall → Option ℕ

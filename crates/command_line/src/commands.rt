@@ -1,12 +1,11 @@
 //! All commands: their definitions, and which of them a line calls. Each has a file of its own, and a line in each of the two
 //! lists below.
-ghost use Rattle.std.specs.Prelude.{◌≡◌, codes, Some, Ok, ℕ, List, map, IfOk, IfSome, MatchResult};
+ghost use Rattle.std.specs.Prelude.{◌≡◌, codes, Some, ℕ, List, map, IfOk, IfSome, MatchResult};
 ghost use Rattle.clap.specs.Words.{app_of, subcommand_name_of, with_subcommand};
 ghost use Rattle.command_line.specs.CommandLine.{commands, program_words, with_commands};
 ghost use Rattle.command_line.specs.Commands.{listed};
 ghost use Rattle.command_line.specs.Definition.{app_in};
 ghost use Rattle.command_line.specs.Request.{IsFor, IsNoUsage};
-ghost use Rattle.command_line.specs.declared.request.Request.TheVariants.{Board};
 
 pub(crate) mod assemble;
 pub(crate) mod board;
@@ -110,10 +109,11 @@ fn with_command<'a>(
 pub fn parse_request<'a>(matches: &ArgMatches<'a>) -> Result<Request<'a>, Unread>
     ensures calls { (name : List ℕ) → subcommand_name_of matches.now ≡ Some name
         → MatchResult result (IsFor name) IsNoUsage }
-    ensures board { subcommand_name_of matches.now ≡ Some (codes "board") → result ≡ Ok Board }
+    ensures board { subcommand_name_of matches.now ≡ Some (codes "board")
+        → MatchResult result (IsFor (codes "board")) (λ _. ⊥) }
 {
     match matches.subcommand() {
-        Some(("board", _)) => Ok(Request::Board),
+        Some(("board", arguments)) => Ok(board::request(arguments)),
         Some((name, arguments)) => parse_command(name, arguments).ok_or(Unread::NoCommand),
         None => Err(Unread::NoCommand),
     }

@@ -1,4 +1,5 @@
 //! The commands with their arguments.
+use crate::beginning::have_beginning;
 use crate::commands::assemble::Assemble;
 use crate::commands::collect::Collect;
 use crate::commands::generate::Generate;
@@ -18,6 +19,8 @@ use crate::respelled::When;
 #[derive(Drop)]
 pub enum Request<'a> {
     Board,
+    /// `board` with `--steps`.
+    BoardSteps,
     Summary(Summary<'a>),
     Collect(Collect<'a>),
     Verify(Verify<'a>),
@@ -36,18 +39,26 @@ pub enum Request<'a> {
 }
 
 impl<'a> Request<'a> {
-    ghost use Rattle.std.specs.Prelude.{◌≡◌, ◌≢◌, codes, None, ℕ, List};
+    ghost use Rattle.std.specs.Prelude.{◌≡◌, ◌≢◌, codes, None, ℕ, List, IsTrue};
     ghost use Rattle.command_line.specs.CommandLine.{HaveBeginning};
-    ghost use Rattle.command_line.specs.Request.{IsFor, asks_json, asks_stats, rows_of};
+    ghost use Rattle.command_line.specs.Request.{IsFor, asks_json, asks_stats, asks_steps, rows_of};
 
-    /// The request of these arguments, without a histogram if none of them begins with the name of that option. Then it asks for
-    /// none; the test lets contracts speak of arguments.
+    /// The request of these arguments, without a histogram or steps if none of them begins with the name of that option. Then it
+    /// asks for none; the test lets contracts speak of arguments.
     pub fn as_asked(self, words: &[String]) -> Request<'a>
         ensures name { (name : List ℕ) → IsFor name self.entry → IsFor name result }
         ensures histogram { rows_of result ≢ None → HaveBeginning (codes "--histogram") words.now }
+        ensures steps { IsTrue (asks_steps result) → HaveBeginning (codes "--steps") words.now }
     {
         match self {
             Request::Import(call) => Request::Import(call.as_asked(words)),
+            Request::BoardSteps => {
+                if have_beginning(words, "--steps") {
+                    Request::BoardSteps
+                } else {
+                    Request::Board
+                }
+            }
             request => request,
         }
     }
@@ -82,7 +93,7 @@ impl<'a> Request<'a> {
     /// Whether to print more details about errors.
     pub fn is_verbose(&self) -> bool {
         match self {
-            Request::Board | Request::Show(_) => false,
+            Request::Board | Request::BoardSteps | Request::Show(_) => false,
             Request::Summary(call) => call.verbose,
             Request::Collect(call) => call.verbose,
             Request::Verify(call) => call.verbose,

@@ -13,16 +13,23 @@ use crate::patterns::{
 use crate::picture::Picture;
 use crate::shade::Shade;
 use crate::style::Shape;
+use crate::tenths::{Tenths, WORDS_IN_A_MIB, digits, label_digits, write_label};
 use std::alloc::{AllocError, Global};
 
 /// The width of the drawing. Its text is legible in a page that is 375 points wide.
 const WIDTH: u64 = 560;
 
-/// The x coordinate at which rows begin. The address in words is left of it.
-const LEFT: u64 = 78;
+/// The least width of the margin left of rows, which has their addresses in words.
+const LEAST_LEFT: u64 = 78;
 
-/// The largest width of a row. The address in MiB is right of it.
-const ROW_WIDTH: u64 = 400;
+/// The least width of the margin right of rows, which has their addresses in KiB or MiB.
+const LEAST_RIGHT: u64 = 82;
+
+/// The width of a digit in common fonts, and some more.
+const DIGIT_WIDTH: u64 = 9;
+
+/// The space between a row and its addresses.
+const GAP: u64 = 6;
 
 const ROW_HEIGHT: u64 = 22;
 
@@ -38,27 +45,46 @@ const PREFIX_MARK: &str = "M0 0L-5 -7H5ZV22";
 /// A mark below a row, with a line through it.
 const TOP_MARK: &str = "M0 22L-5 29H5ZV0";
 
-/// The number of words of one MiB.
-const MIB: u64 = 131_072;
-
 /// What all strips of a picture share.
 #[derive(Clone, Copy)]
 struct Frame {
     figures: MapFigures,
     /// The number of cells of a full row.
-    width: u32,
+    cells: u32,
+    /// The x coordinate at which rows begin.
+    left: u64,
+    /// The width of a full row.
+    row_width: u64,
+}
+
+impl Frame {
+    /// The frame of rows of this many cells, with margins that have room for each address.
+    fn of(figures: MapFigures, cells: u32) -> Frame {
+        let words = digits(figures.words).saturating_mul(DIGIT_WIDTH);
+        let label = label_digits(figures.words).saturating_mul(DIGIT_WIDTH);
+        let left = words.saturating_add(8 + GAP).max(LEAST_LEFT);
+        let right = label.saturating_add(46 + GAP).max(LEAST_RIGHT);
+        Frame {
+            figures,
+            cells: cells.max(1),
+            left,
+            row_width: WIDTH.saturating_sub(left).saturating_sub(right),
+        }
+    }
+
+    /// The x coordinate of cell `i` in a row, in tenths.
+    fn left_of(self, i: u64) -> u64 {
+        self.row_width.saturating_mul(10).saturating_mul(i) / u64::from(self.cells).max(1)
+    }
 }
 
 /// A row of a strip.
 #[derive(Clone, Copy)]
 struct Row<'a> {
     cells: &'a [Cell],
-    /// The number of cells of a full row.
-    width: u64,
+    frame: Frame,
     /// The y coordinate.
     y: u64,
-    /// The address after the last word of the heap.
-    end: u64,
 }
 
 pub(crate) fn draw(
@@ -68,10 +94,8 @@ pub(crate) fn draw(
     name: &str,
 ) -> Result<String, AllocError> {
     let mut svg = String::new(alloc);
-    let frame = Frame {
-        figures: picture.figures,
-        width: shape.width.min(picture.before.cells.len() as u32).max(1),
-    };
+    let cells = shape.width.min(picture.before.cells.len() as u32);
+    let frame = Frame::of(picture.figures, cells);
     let strip = strip_height(&picture.before, frame);
     let after_at = TOP.saturating_add(strip);
     let legend = match &picture.after {
@@ -97,7 +121,7 @@ pub(crate) fn draw(
 
 /// The height of a strip with its name.
 fn strip_height(map: &Map, frame: Frame) -> u64 {
-    let rows = map.cells.len().div_ceil(frame.width.max(1) as usize) as u64;
+    let rows = map.cells.len().div_ceil(frame.cells.max(1) as usize) as u64;
     rows.saturating_mul(ROW_STEP).saturating_add(34)
 }
 
@@ -132,13 +156,20 @@ fn write_figures(svg: &mut String, figures: MapFigures) -> Result<(), AllocError
         new_top,
         filled,
     } = figures;
-    let (whole, tenths) = (words / MIB, words % MIB * 10 / MIB);
-    let share = live.saturating_mul(1000) / words.max(1);
-    let (per_cent, of_ten) = (share / 10, share % 10);
+    let size = Tenths::of(words, WORDS_IN_A_MIB);
+    let per_cent = Tenths::of(live.saturating_mul(100), words);
     writeln!(
         svg,
-        r#"<text x="8" y="40">{words} words, {whole}.{tenths} MiB: {live} live, {per_cent}.{of_ten} per cent; {dead} dead</text>
-<text x="8" y="60">dense prefix ends at {prefix_end}, new top is {new_top}; {filled} regions to fill</text>"#
+        r#"<text x="8" y="40">{words} words, {size} MiB: {live} live, {per_cent} per cent; {dead} dead</text>"#
+    )?;
+    svg.push_str("<text x=\"8\" y=\"60\">")?;
+    match prefix_end {
+        0 => svg.push_str("no dense prefix")?,
+        end => write!(svg, "dense prefix ends at {end}")?,
+    }
+    writeln!(
+        svg,
+        ", new top is {new_top}; {filled} regions to fill</text>"
     )
 }
 
@@ -180,67 +211,71 @@ fn draw_strip(
     let base = y.saturating_add(16);
     writeln!(
         svg,
-        r#"<text x="{LEFT}" y="{base}">{name}</text>
-<text x="8" y="{base}">word</text>"#
+        r#"<text x="{}" y="{base}">{name}</text>
+<text x="8" y="{base}">word</text>"#,
+        frame.left
     )?;
     draw_rows(svg, y.saturating_add(28), map, frame)
 }
 
 /// Writes the rows of a strip, from height `y` on.
 fn draw_rows(svg: &mut String, y: u64, map: &Map, frame: Frame) -> Result<(), AllocError> {
-    let width = frame.width.max(1);
-    for (i, cells) in map.cells.as_slice().chunks(width as usize).enumerate() {
-        let row = Row {
-            cells,
-            width: u64::from(width),
-            y: (i as u64).saturating_mul(ROW_STEP).saturating_add(y),
-            end: frame.figures.words,
-        };
-        draw_row(svg, row, frame.figures)?;
+    let width = frame.cells.max(1) as usize;
+    for (i, cells) in map.cells.as_slice().chunks(width).enumerate() {
+        let y = (i as u64).saturating_mul(ROW_STEP).saturating_add(y);
+        draw_row(svg, Row { cells, frame, y })?;
     }
     Ok(())
 }
 
 /// Writes a row between its addresses.
-fn draw_row(svg: &mut String, row: Row<'_>, figures: MapFigures) -> Result<(), AllocError> {
+fn draw_row(svg: &mut String, row: Row<'_>) -> Result<(), AllocError> {
     let from = match row.cells.first() {
         Some(cell) => cell.from,
         None => 0,
     };
-    let base = row.y.saturating_add(16);
-    let right = LEFT + ROW_WIDTH + 6;
-    let (whole, tenths) = (from / MIB, from % MIB * 10 / MIB);
-    writeln!(
+    let Frame {
+        figures,
+        left,
+        row_width,
+        ..
+    } = row.frame;
+    let (y, base) = (row.y, row.y.saturating_add(16));
+    let margin = left.saturating_sub(GAP);
+    let right = left.saturating_add(row_width).saturating_add(GAP);
+    write!(
         svg,
-        r#"<text x="8" y="{base}">{from}</text>
-<text x="{right}" y="{base}">{whole}.{tenths} MiB</text>
-<g transform="translate({LEFT},{})">"#,
-        row.y
+        r#"<text x="{margin}" y="{base}" text-anchor="end">{from}</text>
+<text x="{right}" y="{base}">"#
     )?;
+    write_label(svg, from)?;
+    writeln!(svg, "</text>\n<g transform=\"translate({left},{y})\">")?;
     draw_cells(svg, row)?;
-    draw_mark(svg, row, figures.prefix_end, "prefix end", PREFIX_MARK)?;
+    if has_prefix(figures) {
+        draw_mark(svg, row, figures.prefix_end, "prefix end", PREFIX_MARK)?;
+    }
     draw_mark(svg, row, figures.new_top, "new top", TOP_MARK)?;
     svg.push_str("</g>\n")
+}
+
+/// Whether there is a dense prefix, whose end has a mark.
+fn has_prefix(figures: MapFigures) -> bool {
+    0 < figures.prefix_end
 }
 
 /// Writes the cells of a row.
 fn draw_cells(svg: &mut String, row: Row<'_>) -> Result<(), AllocError> {
     for (i, cell) in row.cells.iter().enumerate() {
-        draw_cell(svg, cell, i as u64, row.width)?;
+        draw_cell(svg, cell, i as u64, row.frame)?;
     }
     Ok(())
 }
 
-/// The x coordinate of cell `i` of a row of `width` cells, in tenths.
-fn left_of(i: u64, width: u64) -> u64 {
-    (ROW_WIDTH * 10).saturating_mul(i) / width.max(1)
-}
-
-/// Writes cell `i` of a row of `width` cells, with its words and its area as a title.
-fn draw_cell(svg: &mut String, cell: &Cell, i: u64, width: u64) -> Result<(), AllocError> {
+/// Writes cell `i` of a row, with its words and its area as a title.
+fn draw_cell(svg: &mut String, cell: &Cell, i: u64, frame: Frame) -> Result<(), AllocError> {
     let (key, digit) = (key_of(cell.area), digit_of(Shade::of(cell)));
-    let x = left_of(i, width);
-    let wide = left_of(i.saturating_add(1), width).saturating_sub(x);
+    let x = frame.left_of(i);
+    let wide = frame.left_of(i.saturating_add(1)).saturating_sub(x);
     write!(
         svg,
         r#"<rect x="{}.{}" width="{}.{}" height="{ROW_HEIGHT}" fill="url(#{key}{digit})">"#,
@@ -269,11 +304,11 @@ fn draw_mark(
         (Some(first), Some(last)) => (first.from, last.to),
         _ => (0, 0),
     };
-    let is_end = address == to && to == row.end;
+    let is_end = address == to && to == row.frame.figures.words;
     if address < from || (to <= address && !is_end) {
         return Ok(());
     }
-    let full = left_of(row.cells.len() as u64, row.width);
+    let full = row.frame.left_of(row.cells.len() as u64);
     let x = full.saturating_mul(address - from) / to.saturating_sub(from).max(1);
     writeln!(
         svg,
@@ -287,11 +322,30 @@ fn draw_mark(
 fn draw_legend(svg: &mut String, picture: &Picture, y: u64) -> Result<(), AllocError> {
     draw_areas(svg, picture, y)?;
     draw_shades(svg, y.saturating_add(34))?;
-    let marks = y.saturating_add(76);
+    draw_marks(svg, picture.figures, y.saturating_add(76))
+}
+
+/// Writes the legend of the marks that occur, at height `y`.
+fn draw_marks(svg: &mut String, figures: MapFigures, y: u64) -> Result<(), AllocError> {
+    let mut x = 20;
+    if has_prefix(figures) {
+        draw_mark_sample(svg, x, y, "end of the dense prefix", PREFIX_MARK)?;
+        x = 240;
+    }
+    draw_mark_sample(svg, x, y, "top after the collection", TOP_MARK)
+}
+
+/// Writes the legend of a mark at a point.
+fn draw_mark_sample(
+    svg: &mut String,
+    x: u64,
+    y: u64,
+    name: &str,
+    path: &str,
+) -> Result<(), AllocError> {
     writeln!(
         svg,
-        r#"<g transform="translate(20,{marks})"><path class="mark" d="{PREFIX_MARK}"/><text x="14" y="10">end of the dense prefix</text>
-<path class="mark" transform="translate(220,0)" d="{TOP_MARK}"/><text x="234" y="10">top after the collection</text></g>"#
+        r#"<g transform="translate({x},{y})"><path class="mark" d="{path}"/><text x="14" y="10">{name}</text></g>"#
     )
 }
 

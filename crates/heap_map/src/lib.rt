@@ -26,6 +26,7 @@ mod picture;
 mod shade;
 mod strips;
 mod style;
+mod tenths;
 
 pub use area::Area;
 pub use cell::Cell;

@@ -1,7 +1,8 @@
 //! The commands of the program. Each is a module of `collection_commands` or `heap_commands`, and has an arm below. The
 //! crate `command_line` parses its arguments.
 ghost use Rattle.std.specs.Prelude.{◌≡◌, codes, ℕ, List, IfOk, IfErr};
-ghost use Rattle.command_line.specs.Request.{IsFor, rows_of};
+ghost use Rattle.command_line.specs.Request.{IsFor, asks_steps, rows_of};
+ghost use Rattle.heap_commands.specs.Board.{IsBoardShown};
 ghost use Rattle.heap_commands.specs.Import.{IsImportText};
 ghost use Rattle.pcompact.specs.Commands.{IsPrintedBy};
 ghost use Rattle.command_support.specs.Failure.{out_of_memory};
@@ -32,11 +33,15 @@ where
     // Without `--histogram`, or with `--json`, that is the line with the figures alone.
     ensures import { IsFor (codes "import") request.entry
         → IfOk result (λ done. IsImportText (rows_of request.entry) done.text.items) }
+    // Without `--steps`, that is the report alone.
+    ensures report { IsFor (codes "board") request.entry
+        → IfOk result (λ done. IsBoardShown (asks_steps request.entry) done.text.items) }
     ensures board { IsFor (codes "board") request.entry
         → IfErr result (λ trouble. trouble.failure ≡ out_of_memory) }
 {
     match request {
         Request::Board => board::answer(rt),
+        Request::BoardSteps => board::answer_with_steps(rt),
         Request::Summary(request) => summarize::answer(rt, screen, request),
         Request::Collect(request) => collect::answer(rt, request),
         Request::Verify(request) => verify::answer(rt, screen, request),

@@ -1,8 +1,8 @@
 //! What the contract of the program says of each command: laws that take its part out of the clause on what a
 //! successful call prints.
 ghost use Rattle.std.specs.Prelude.{◌≡◌, codes, ℕ, List};
-ghost use Rattle.board_sweep.specs.Report.{IsBoardText};
 ghost use Rattle.heap_commands.specs.Assemble.{IsCountLine};
+ghost use Rattle.heap_commands.specs.Board.{IsBoard};
 ghost use Rattle.heap_commands.specs.Generate.{IsGenerationLine};
 ghost use Rattle.heap_commands.specs.Import.{IsImported};
 ghost use Rattle.heap_commands.specs.Map.{IsMap};
@@ -15,9 +15,10 @@ ghost use Rattle.heap_commands.specs.Upgrade.{IsRootCount};
 ghost use Rattle.collection_commands.specs.Figures.{IsFigures};
 ghost use Rattle.pcompact.specs.Commands.{IsPrintedBy};
 
-/// `board` prints the report of some legal history of two workers over the moves of the three regions.
+/// `board` prints the report of some legal history of two workers over the moves of the three regions, alone or after the lines of
+/// its steps.
 pub fn board_prints_its_report()
-    ensures prints { (text : List ℕ) → IsPrintedBy (codes "board") text → IsBoardText text }
+    ensures prints { (text : List ℕ) → IsPrintedBy (codes "board") text → IsBoard text }
 {}
 
 /// `summary` prints the summary of some valid image.

@@ -4,7 +4,7 @@ use command_support::{NamedFiles, Role};
 /// The files that a request names, by their roles.
 pub fn named_files<'a>(request: &Request<'a>) -> NamedFiles<'a> {
     match request {
-        Request::Board | Request::Show(_) => NamedFiles::none(),
+        Request::Board | Request::BoardSteps | Request::Show(_) => NamedFiles::none(),
         Request::Summary(call) => NamedFiles::one(Role::Image, call.image),
         Request::Generate(call) => NamedFiles::one(Role::Image, call.image),
         Request::Order(call) => NamedFiles::one(Role::Image, call.image),

@@ -1,6 +1,7 @@
 //! The whole program, over any two writers.
 ghost use Rattle.std.specs.Prelude.{◌≡◌, ◌≢◌, ◌≤◌, ◌∷◌, ◌⊎◌, [], codes, map, string_bytes, ℕ, Bool, List, Option, None, IfOk, OnOk, IfErr, IfSome, IsTrue};
-ghost use Rattle.command_line.specs.Request.{IsFor, IsNoUsage, rows_of};
+ghost use Rattle.command_line.specs.Request.{IsFor, IsNoUsage, asks_steps, rows_of};
+ghost use Rattle.heap_commands.specs.Board.{IsBoardShown};
 ghost use Rattle.heap_commands.specs.Import.{IsImportText};
 ghost use Rattle.std.specs.Io.KnownBytes.{Appends};
 ghost use Rattle.command_line.specs.CommandLine.{AreWords, AreCallOf, AreLineOf, HaveBeginning, HaveWord};
@@ -65,6 +66,12 @@ where
     ensures import { AreLineOf (codes "import") words.now → result ≡ 0
         → (text : List ℕ) × (rows : Option ℕ) × IsImportText rows text
         × (rows ≢ None → HaveBeginning (codes "--histogram") words.now)
+        × (json : Bool) × (IsTrue json → HaveWord (codes "--json") words.now)
+        × Appends (A.contents out.old) (A.contents out.new) (as_shown json text) }
+    // Without `--steps`, `board` prints the report alone.
+    ensures report { AreLineOf (codes "board") words.now → result ≡ 0
+        → (text : List ℕ) × (steps : Bool) × IsBoardShown steps text
+        × (IsTrue steps → HaveBeginning (codes "--steps") words.now)
         × (json : Bool) × (IsTrue json → HaveWord (codes "--json") words.now)
         × Appends (A.contents out.old) (A.contents out.new) (as_shown json text) }
 {
@@ -133,6 +140,9 @@ where
     ensures import { IsFor (codes "import") request.entry → result ≡ 0
         → (text : List ℕ) × IsImportText (rows_of request.entry) text
         × Appends (A.contents out.old) (A.contents out.new) (as_shown manner.json text) }
+    ensures report { IsFor (codes "board") request.entry → result ≡ 0
+        → (text : List ℕ) × IsBoardShown (asks_steps request.entry) text
+        × Appends (A.contents out.old) (A.contents out.new) (as_shown manner.json text) }
 {
     let named = manner.details.then_some(named_files(&request));
     if !manner.screen.is_open {
@@ -165,6 +175,8 @@ where
         (text : List ℕ) × IsPrintedBy name text × (done.text.items ≡ as_shown manner.json text)) }
     ensures import { IsFor (codes "import") request.entry → IfOk result (λ done.
         (text : List ℕ) × IsImportText (rows_of request.entry) text × (done.text.items ≡ as_shown manner.json text)) }
+    ensures report { IsFor (codes "board") request.entry → IfOk result (λ done.
+        (text : List ℕ) × IsBoardShown (asks_steps request.entry) text × (done.text.items ≡ as_shown manner.json text)) }
     ensures board { IsFor (codes "board") request.entry
         → IfErr result (λ trouble. trouble.failure ≡ out_of_memory) }
 {
@@ -229,6 +241,11 @@ where
     ensures import { AreCallOf (codes "import") spelled.now.line.words.items → result ≡ 0
         → (text : List ℕ) × (rows : Option ℕ) × IsImportText rows text
         × (rows ≢ None → HaveBeginning (codes "--histogram") spelled.now.words.now)
+        × (json : Bool) × (IsTrue json → HaveWord (codes "--json") spelled.now.words.now)
+        × Appends (A.contents out.old) (A.contents out.new) (as_shown json text) }
+    ensures report { AreCallOf (codes "board") spelled.now.line.words.items → result ≡ 0
+        → (text : List ℕ) × (steps : Bool) × IsBoardShown steps text
+        × (IsTrue steps → HaveBeginning (codes "--steps") spelled.now.words.now)
         × (json : Bool) × (IsTrue json → HaveWord (codes "--json") spelled.now.words.now)
         × Appends (A.contents out.old) (A.contents out.new) (as_shown json text) }
 {

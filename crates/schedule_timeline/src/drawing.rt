@@ -8,7 +8,9 @@ use crate::names::{Names, write_names};
 use crate::strips::write_freeing;
 use crate::timeline::Timeline;
 use crate::timeline::bar::Bar;
+use crate::timeline::filled::{regions_of, words_by_worker};
 use crate::timeline::freeing::Freeing;
+use crate::timeline::idle::Idle;
 use crate::timeline::scale::Scale;
 use density::draw_density;
 use std::alloc::{AllocError, Global};
@@ -26,6 +28,9 @@ const TOP: u64 = 104;
 
 /// The height of a lane with the space below it.
 const LANE_HEIGHT: u64 = 34;
+
+/// The height of a lane with the two lines of text that stand below it where there are no bars.
+const SHARE_HEIGHT: u64 = 63;
 
 pub(crate) const BAR_HEIGHT: u64 = 20;
 
@@ -49,13 +54,18 @@ pub(crate) fn draw(
         cells: LANE_WIDTH,
     };
     begin(&mut svg, timeline, names)?;
-    if timeline.bars.len() > MAX_BARS {
+    if has_many(timeline) {
         draw_shares(alloc, &mut svg, timeline)?;
     } else {
         draw_bars(&mut svg, timeline, scale)?;
     }
     svg.push_str("</svg>\n")?;
     Ok(svg)
+}
+
+/// Whether regions are too many for a bar each.
+fn has_many(timeline: &Timeline) -> bool {
+    timeline.bars.len() > MAX_BARS
 }
 
 /// Writes the lanes with a bar for each region, the drains that free a region, and the legend.
@@ -70,13 +80,50 @@ fn draw_bars(svg: &mut String, timeline: &Timeline, scale: Scale) -> Result<(), 
 
 /// Writes the lanes with the shares of lines in which a worker has a region in hand, and the legend.
 fn draw_shares(alloc: Global, svg: &mut String, timeline: &Timeline) -> Result<(), AllocError> {
+    let words = words_by_worker(alloc, &timeline.schedule)?;
     let workers = timeline.schedule.workers();
     for worker in 0..workers {
-        let y = top_of(worker);
-        begin_lane(svg, worker, y)?;
-        draw_density(alloc, svg, timeline, worker, y)?;
+        let words = words.get(worker as usize).copied().unwrap_or(0);
+        draw_share(alloc, svg, timeline, worker, words)?;
     }
-    draw_share_legend(svg, timeline, top_of(workers) + 8)
+    draw_share_legend(svg, timeline, share_top_of(workers) + 8)
+}
+
+/// Writes the lane of a worker with its shares, what it fills, and when it is idle.
+fn draw_share(
+    alloc: Global,
+    svg: &mut String,
+    timeline: &Timeline,
+    worker: u32,
+    words: u64,
+) -> Result<(), AllocError> {
+    let y = share_top_of(worker);
+    begin_lane(svg, worker, y)?;
+    draw_density(alloc, svg, timeline, worker, y)?;
+    let (regions, base) = (regions_of(timeline, worker), y + 36);
+    writeln!(
+        svg,
+        r#"<text class="t" x="{LEFT}" y="{base}">regions filled: {regions}, words: {words}</text>"#
+    )?;
+    write!(svg, r#"<text class="t" x="{LEFT}" y="{}">"#, y + 53)?;
+    write_idle(svg, Idle::of(timeline, worker), timeline.schedule.len())?;
+    svg.push_str("</text>\n")
+}
+
+/// Writes when a worker is idle.
+fn write_idle(svg: &mut String, idle: Idle, lines: usize) -> Result<(), AllocError> {
+    if idle.lines == 0 {
+        return svg.push_str("never idle");
+    }
+    let (from, last) = (idle.longest.from, idle.longest.end.saturating_sub(1));
+    if idle.lines == idle.longest.lines() {
+        return write!(svg, "idle from line {from} to {last}");
+    }
+    write!(
+        svg,
+        "idle in {} of {lines} lines, longest from line {from} to {last}",
+        idle.lines
+    )
 }
 
 /// The x coordinate of a line.
@@ -93,11 +140,23 @@ fn top_of(worker: u32) -> u64
     u64::from(worker) * LANE_HEIGHT + TOP
 }
 
+/// The y coordinate of the lane of a worker that has shares.
+fn share_top_of(worker: u32) -> u64
+    ensures { result ≤ 2 ^ 38 }
+{
+    u64::from(worker) * SHARE_HEIGHT + TOP
+}
+
 /// Writes the head of the document, the styles, the names and the figures.
 fn begin(svg: &mut String, timeline: &Timeline, names: Names<'_>) -> Result<(), AllocError> {
     let figures = TimelineFigures::of(timeline);
     let (lines, workers) = (figures.lines, figures.workers);
-    let height = top_of(workers) + 112;
+    let lanes_end = if has_many(timeline) {
+        share_top_of(workers)
+    } else {
+        top_of(workers)
+    };
+    let height = lanes_end + 112;
     writeln!(
         svg,
         r#"<?xml version="1.0" encoding="UTF-8"?>
@@ -149,6 +208,7 @@ text { fill: #111 }
 .f { fill: #111 }
 .f path { fill: none; stroke: #111; stroke-dasharray: 3 2 }
 .n { pointer-events: none; text-anchor: middle }
+.t { font-size: 14px }
 .s1, .s2, .s3, .s4 { shape-rendering: crispEdges }
 .s1 { fill: #b9d3f0 }
 .s2 { fill: #7fadde }
@@ -279,7 +339,7 @@ fn draw_part(svg: &mut String, class: &str, from: u64, to: u64, y: u64) -> Resul
 /// Writes the drains that free a region: all, or one of each few if there are too many.
 fn draw_freeings(svg: &mut String, freeings: &[Freeing], scale: Scale) -> Result<(), AllocError> {
     let every = freeings.len().div_ceil(MAX_FREEINGS).max(1);
-    let linked = freeings.len() <= MAX_LINKS;
+    let linked = are_linked(freeings);
     for (i, freeing) in freeings.iter().enumerate() {
         if i % every == 0 {
             draw_freeing(svg, freeing, scale, linked)?;
@@ -313,26 +373,66 @@ fn draw_freeing(
     svg.push_str("</g>\n")
 }
 
-/// Writes the legend of bars at height `y`, and what is left out.
+/// Writes the legend of what is drawn of bars and drains at height `y`, and what is left out.
 fn draw_legend(svg: &mut String, timeline: &Timeline, y: u64) -> Result<(), AllocError>
     requires { y ≤ 2 ^ 39 }
 {
-    draw_samples(
-        svg,
-        y,
-        &[
-            (8, "e", "being filled (even region)"),
-            (240, "o", "odd region"),
-            (380, "w", "completed, not settled yet"),
-        ],
-    )?;
-    let (tick, base) = (y + 36, y + 45);
+    draw_bar_legend(svg, &timeline.bars, y)?;
+    draw_tick_legend(svg, &timeline.freeings, y + 36)?;
+    write_thinned(svg, timeline, y + 70)
+}
+
+/// Writes the legend of the kinds of bars that are drawn at height `y`.
+fn draw_bar_legend(svg: &mut String, bars: &[Bar], y: u64) -> Result<(), AllocError>
+    requires { y ≤ 2 ^ 39 }
+{
+    let has_even = bars.iter().any(|bar| bar.region % 2 == 0);
+    let has_odd = bars.iter().any(|bar| bar.region % 2 == 1);
+    let has_completed = bars.iter().any(|bar| bar.completed.is_some());
+    let odd = if has_even {
+        "odd region"
+    } else {
+        "being filled (odd region)"
+    };
+    let mut x: u64 = 8;
+    for (is_drawn, class, name) in [
+        (has_even, "e", "being filled (even region)"),
+        (has_odd, "o", odd),
+        (has_completed, "w", "completed, not settled yet"),
+    ] {
+        if is_drawn {
+            draw_sample(svg, x, y, class, name)?;
+            let width = (name.len() as u64).saturating_mul(7);
+            x = x.saturating_add(width).saturating_add(50);
+        }
+    }
+    Ok(())
+}
+
+/// Writes the legend of ticks and of lines from them at height `y`, if they are drawn.
+fn draw_tick_legend(svg: &mut String, freeings: &[Freeing], y: u64) -> Result<(), AllocError>
+    requires { y ≤ 2 ^ 40 }
+{
+    if freeings.is_empty() {
+        return Ok(());
+    }
+    let has_links = are_linked(freeings) && freeings.iter().any(|freeing| freeing.taken.is_some());
+    let links = if has_links {
+        "; a dashed line leads to who takes it"
+    } else {
+        ""
+    };
+    let base = y + 9;
     writeln!(
         svg,
-        r#"<g class="f"><rect x="20" y="{tick}" width="2" height="8"/></g>
-<text x="40" y="{base}">a drain frees a region; a dashed line leads to who takes it</text>"#
-    )?;
-    write_thinned(svg, timeline, y + 70)
+        r#"<g class="f"><rect x="20" y="{y}" width="2" height="8"/></g>
+<text x="40" y="{base}">a drain frees a region{links}</text>"#
+    )
+}
+
+/// Whether there are so few drains that a line can lead from each.
+fn are_linked(freeings: &[Freeing]) -> bool {
+    freeings.len() <= MAX_LINKS
 }
 
 /// Writes the legend of shares at height `y`.
@@ -367,14 +467,21 @@ fn draw_samples(svg: &mut String, y: u64, samples: &[(u64, &str, &str)]) -> Resu
     requires { y ≤ 2 ^ 40 }
 {
     for (x, class, name) in samples {
-        let (right, base) = (x.saturating_add(32), y + 15);
-        writeln!(
-            svg,
-            r#"<rect class="{class}" x="{x}" y="{y}" width="26" height="{BAR_HEIGHT}"/>
-<text x="{right}" y="{base}">{name}</text>"#
-        )?;
+        draw_sample(svg, *x, y, class, name)?;
     }
     Ok(())
+}
+
+/// Writes a sample of a class at a point, and its name.
+fn draw_sample(svg: &mut String, x: u64, y: u64, class: &str, name: &str) -> Result<(), AllocError>
+    requires { y ≤ 2 ^ 40 }
+{
+    let (right, base) = (x.saturating_add(32), y + 15);
+    writeln!(
+        svg,
+        r#"<rect class="{class}" x="{x}" y="{y}" width="26" height="{BAR_HEIGHT}"/>
+<text x="{right}" y="{base}">{name}</text>"#
+    )
 }
 
 /// Writes how many drains are left out, if any.

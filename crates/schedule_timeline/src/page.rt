@@ -1,5 +1,5 @@
 //! Writes a timeline as an HTML page that needs no other file.
-ghost use Rattle.std.specs.Prelude.{◌≡◌, ◌<◌, ◌-◌, ◌^◌, ◌++◌, ℕ, List, IfOk, OnOk, string_bytes};
+ghost use Rattle.std.specs.Prelude.{◌≡◌, ◌++◌, ℕ, List, IfOk, OnOk, string_bytes};
 ghost use Rattle.history.specs.ScheduleText.{schedule_text};
 ghost use Rattle.schedule_timeline.specs.Page.{Has};
 
@@ -50,23 +50,39 @@ fn write_back(page: &mut String) -> Result<(), AllocError>
     Ok(())
 }
 
-/// Writes a line with the numbers of regions and of regions to fill, and a line for each pair of destination and source.
+/// Writes a line with the numbers of regions, of regions to fill and of those of the dense prefix, and the lines of each
+/// destination.
 fn write_moves(text: &mut String, plan: &Plan) -> Result<(), AllocError> {
     let regions = plan.regions();
     let filled = plan.fill_regions();
-    writeln!(text, "regions {regions} filled {filled}")?;
+    let prefix = plan.prefix_end() / plan.region_words().max(1);
+    writeln!(text, "regions {regions} filled {filled} prefix {prefix}")?;
     for destination in 0..regions {
-        write_pairs(text, plan, destination)?;
+        write_sources(text, plan, destination)?;
     }
     Ok(())
 }
 
-/// Writes the pairs of a destination. All its sources are above it.
-fn write_pairs(text: &mut String, plan: &Plan, destination: u32) -> Result<(), AllocError>
-    requires { destination < 2 ^ 32 - 1 }
-{
-    for source in plan.reads_from(destination, destination + 1) {
-        writeln!(text, "{destination} {source}")?;
+/// Writes a line for each source of a destination, itself included: both, and up to which word the destination is written
+/// once all words from there are.
+fn write_sources(text: &mut String, plan: &Plan, destination: u32) -> Result<(), AllocError> {
+    for source in plan.reads(destination) {
+        let end = taken_up_to(plan, destination, source);
+        writeln!(text, "{destination} {source} {end}")?;
     }
     Ok(())
+}
+
+/// The number of words from the start of a destination up to the last one that comes from a source.
+fn taken_up_to(plan: &Plan, destination: u32, source: u32) -> u64 {
+    if source >= plan.regions() {
+        return 0;
+    }
+    let size = plan.region_words();
+    let from = plan.region(source);
+    let end = from
+        .destination
+        .saturating_add(u64::from(from.partial))
+        .saturating_add(u64::from(from.live));
+    size.min(end.saturating_sub(u64::from(destination).saturating_mul(size)))
 }

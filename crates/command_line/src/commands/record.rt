@@ -25,6 +25,10 @@ pub const DEFINITION: Definition = Definition {
         OUT,
         Argument::File("SCHEDULE", "Where to write the schedule of the workers"),
         WORKERS,
+        Argument::Flag(
+            "turns",
+            "Let workers take turns, so that each has some of the work",
+        ),
         Argument::Valued(REGION_LOG),
         Argument::Valued(ALLOWANCE),
         ATOMIC,
@@ -45,6 +49,8 @@ pub struct Record<'a> {
     pub schedule: &'a str,
     /// The number of workers.
     pub workers: u32,
+    /// Whether workers take turns.
+    pub turns: bool,
     /// What the image is read with in place of what is in its head.
     pub shape: Shape,
     /// Whether files are replaced only once all is done.
@@ -74,6 +80,7 @@ impl<'a> Record<'a> {
             out,
             schedule,
             workers,
+            turns: matches.get_flag("turns"),
             shape: Shape::of(matches),
             atomic: matches.get_flag("atomic"),
             stats: matches.get_flag("stats"),
@@ -85,5 +92,5 @@ impl<'a> Record<'a> {
 /// Lines that call `record`.
 pub fn line_calls_record()
     ensures line { IsCallOf (codes "record") (codes "record" ∷ codes "heap.pcheap" ∷ codes "out.pcheap" ∷ codes "schedule" ∷ codes "--workers=2" ∷ []) }
-    ensures options { IsCallOf (codes "record") (codes "record" ∷ codes "heap.pcheap" ∷ codes "out.pcheap" ∷ codes "schedule" ∷ codes "--workers=2" ∷ codes "--stats" ∷ codes "--region-log" ∷ codes "12" ∷ codes "--allowance" ∷ codes "64" ∷ codes "--progress" ∷ []) }
+    ensures options { IsCallOf (codes "record") (codes "record" ∷ codes "heap.pcheap" ∷ codes "out.pcheap" ∷ codes "schedule" ∷ codes "--workers=2" ∷ codes "--turns" ∷ codes "--stats" ∷ codes "--region-log" ∷ codes "12" ∷ codes "--allowance" ∷ codes "64" ∷ codes "--progress" ∷ []) }
 {}

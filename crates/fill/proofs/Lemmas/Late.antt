@@ -1,12 +1,13 @@
 -- The references of the deferred objects, as they are redirected region by region.
-use Rattle.std.proofs.Common.{◌≡◌, ℕ, ◌+◌, ◌-◌, ◌≤◌, ◌<◌, inl, inr, ◌⊎◌, Bool, true, false, cond, ◌&&◌, ◌||◌, List, map, [], ◌∷◌, ◌++◌, length, get_or, set, refl, sym, ◌∙◌, ap, subst, arith, ltb, leb, length-set}
+use Rattle.std.proofs.Common.{◌≡◌, ℕ, ◌+◌, ◌-◌, ◌≤◌, ◌<◌, inl, inr, ◌⊎◌, Bool, true, false, cond, ◌&&◌, ◌||◌, List, map, [], ◌∷◌, ◌++◌, length, get_or, refl, sym, ◌∙◌, ap, subst, arith, ltb, leb}
 use Rattle.std.specs.Prelude.{Some, None, Option}
 use Rattle.std.specs.List.{range_with_len, list_any}
 use Rattle.std.proofs.Math.Nat.{zero-add}
-use Rattle.std.proofs.lemmas.Bool.{cases_lt, cases_eq, true≢false, and_parts, and_from, or_from, lt-ltb, le-leb, ltb-true, leb-true, le-ltb, and_left, and_right, false_from_ne_true}
-use Rattle.std.proofs.lemmas.List.{ext_get_or, get_or-set_same, get_or-set_other}
+use Rattle.std.proofs.lemmas.Bool.{cases_lt, true≢false, and_parts, and_from, or_from, lt-ltb, le-leb, ltb-true, leb-true, le-ltb, and_left, and_right, false_from_ne_true}
+use Rattle.std.proofs.lemmas.List.{ext_get_or, length-map, get_or-map}
 use Rattle.std.proofs.lemmas.List.Folds.{list_any-append, list_any_at, Any-from_list_any}
 use Rattle.std.proofs.lemmas.List.FromFn.{get_or-map-range_with_len, length-map-range_with_len, get_or-range_with_len, length-range_with_len}
+use Rattle.raw_region.specs.Region.{with_words, part}
 use Rattle.object_heap.specs.Layout.{references_in, reference_in}
 use Rattle.object_heap.specs.HeapImage.{HeapImage, HasLiveList, word_at, references_at, is_null_or_live}
 use Rattle.summary.specs.NewAddresses.{new_address}
@@ -14,6 +15,7 @@ use Rattle.summary.specs.Compaction.{moved_word, redirected_word, is_deferred}
 use Rattle.summary.specs.RegionData.{deferred}
 use Rattle.summary.specs.Updates.{is_late_reference}
 use Rattle.fill.proofs.Lemmas.Lists.{range_with_len-add}
+use Rattle.fill.proofs.Lemmas.Writing.{length-part, length-with_words, get_or-part, get_or-written_below, get_or-written_at, get_or-written_above}
 use Rattle.fill.specs.MovedHeap.{redirected_where, is_reference_behind, is_late_behind, is_late_before}
 
 same_Bool : (b c : Bool) → (b ≡ true → c ≡ true) → (c ≡ true → b ≡ true) → b ≡ c
@@ -50,25 +52,44 @@ module _ (image : HeapImage) where
         let m : k < n = omega arith in
         words_at test k m ∙ ap (λ b. cond b (redirected_word image (moved_word image (a + k))) (moved_word image (a + k))) (h (a + k) (omega arith) (omega arith)) ∙ sym (words_at next k m))
 
-    -- one more reference is redirected
-    pub words_set : (test next : ℕ → Bool) (p w : ℕ) → p < n → w ≡ redirected_word image (moved_word image (a + p)) → next (a + p) ≡ true → ((q : ℕ) → (q ≡ a + p → ⊥) → test q ≡ next q)
-        → set (words_by test) p w ≡ words_by next
-    words_set test next p w l e pass others =
-        let one = length-words test in
-        let two = length-words next in
-        let three = length-set (words_by test) p w in
-        ext_get_or 0 (set (words_by test) p w) (words_by next) (omega arith) (λ k m. each k (omega arith))
+    -- m more references are redirected
+    pub words_row : (test next : ℕ → Bool) (p m : ℕ) → p + m ≤ n → (f : ℕ → ℕ)
+        → ((k : ℕ) → p ≤ k → k < p + m → (test (a + k) ≡ false) × (next (a + k) ≡ true) × (f (moved_word image (a + k)) ≡ redirected_word image (moved_word image (a + k))))
+        → ((k : ℕ) → (k < p) ⊎ (p + m ≤ k) → test (a + k) ≡ next (a + k))
+        → with_words (words_by test) p (map f (part (words_by test) p m)) ≡ words_by next
+    words_row test next p m l f here others =
+        let two : length (words_by next) ≡ n = length-words next in
+        let four = length-with_words (words_by test) (map f (part (words_by test) p m)) p (let one = length-words test in let three = long in omega arith) in
+        let one : length (words_by test) ≡ n = length-words test in
+        ext_get_or 0 (with_words (words_by test) p (map f (part (words_by test) p m))) (words_by next) (omega arith) (λ k few. each k (omega arith))
       where
-        each : (k : ℕ) → k < n → get_or (set (words_by test) p w) k 0 ≡ get_or (words_by next) k 0
-        each k m = elim (cases_eq k p) [
-          | inl same ↦
-              let one = length-words test in
-              ap (λ i. get_or (set (words_by test) p w) i 0) same ∙ get_or-set_same (words_by test) p w 0 (omega arith) ∙ e
-              ∙ sym (ap (λ i. get_or (words_by next) i 0) same ∙ words_at next p l ∙ ap (λ b. cond b (redirected_word image (moved_word image (a + p))) (moved_word image (a + p))) pass)
-          | inr other ↦
-              get_or-set_other (words_by test) p k w 0 other ∙ words_at test k m
-              ∙ ap (λ b. cond b (redirected_word image (moved_word image (a + k))) (moved_word image (a + k))) (others (a + k) (λ same. other (omega arith))) ∙ sym (words_at next k m)
-        ]
+        long : length (map f (part (words_by test) p m)) ≡ m
+        long = let one = length-words test in length-map (part (words_by test) p m) f ∙ length-part (words_by test) p m (omega arith)
+
+        same : (k : ℕ) → k < n → (k < p) ⊎ (p + m ≤ k) → get_or (words_by test) k 0 ≡ get_or (words_by next) k 0
+        same k few out =
+            words_at test k few ∙ ap (λ b. cond b (redirected_word image (moved_word image (a + k))) (moved_word image (a + k))) (others k out) ∙ sym (words_at next k few)
+
+        each : (k : ℕ) → k < n → get_or (with_words (words_by test) p (map f (part (words_by test) p m))) k 0 ≡ get_or (words_by next) k 0
+        each k few =
+            let one : length (words_by test) ≡ n = length-words test in
+            let three : length (map f (part (words_by test) p m)) ≡ m = long in
+            elim (cases_lt k p) [
+              | inl low ↦ get_or-written_below (words_by test) (map f (part (words_by test) p m)) p k (omega arith) low ∙ same k few (inl low)
+              | inr high ↦ elim (cases_lt k (p + m)) [
+                | inl in_row ↦
+                    let j : ℕ = k - p in
+                    let is : k ≡ p + j = omega arith in
+                    let less : j < m = omega arith in
+                    let has = here k high in_row in
+                    get_or-written_at (words_by test) (map f (part (words_by test) p m)) p k j (omega arith) is (omega arith)
+                    ∙ get_or-map f (part (words_by test) p m) j 0 0 (let some = length-part (words_by test) p m (omega arith) in omega arith)
+                    ∙ ap f (get_or-part (words_by test) p m j less ∙ ap (λ i. get_or (words_by test) i 0) (sym is) ∙ words_not test k few has.0)
+                    ∙ has.2
+                    ∙ sym (words_at next k few ∙ ap (λ b. cond b (redirected_word image (moved_word image (a + k))) (moved_word image (a + k))) has.1)
+                | inr above ↦ get_or-written_above (words_by test) (map f (part (words_by test) p m)) p k (omega arith) (omega arith) ∙ same k few (inr above)
+              ]
+            ]
 
   abbrev late_in : ℕ → ℕ → Bool
   late_in p e = is_late_behind image (deferred image e) p
@@ -119,23 +140,23 @@ module _ (image : HeapImage) where
       none (inl l) = and_right (ltb x q) (ltb q (x + 1)) (le-ltb q (x + 1) (omega arith))
       none (inr l) = and_left (ltb x q) (ltb q (x + 1)) (le-ltb x q l)
 
-  pub up_to-other : (d x p q : ℕ) → (q ≡ p → ⊥) → late_up_to d x p q ≡ late_up_to d x (p + 1) q
-  up_to-other d x p q other = ap (λ b. is_late_before image d q || (ltb x q && b)) (same_Bool (ltb q p) (ltb q (p + 1))
-      (λ h. let l : q < p = ltb-true q p h in lt-ltb q (p + 1) (omega arith))
-      (λ h. let l : q < p + 1 = ltb-true q (p + 1) h in lt-ltb q p (elim (cases_lt q p) [
+  pub up_to-outside : (d x p m q : ℕ) → (q < p) ⊎ (p + m ≤ q) → late_up_to d x p q ≡ late_up_to d x (p + m) q
+  up_to-outside d x p m q out = ap (λ b. is_late_before image d q || (ltb x q && b)) (same_Bool (ltb q p) (ltb q (p + m))
+      (λ h. let l : q < p = ltb-true q p h in lt-ltb q (p + m) (omega arith))
+      (λ h. let l : q < p + m = ltb-true q (p + m) h in lt-ltb q p (elim out [
         | inl less ↦ less
-        | inr more ↦ let same : q ≡ p = omega arith in absurd (other same)
+        | inr more ↦ let no : ⊥ = omega arith in absurd no
       ])))
 
-  pub up_to-here : (d x p : ℕ) → x < p → late_up_to d x (p + 1) p ≡ true
-  up_to-here d x p l = right (is_late_before image d p) (and_from (ltb x p) (ltb p (p + 1)) (lt-ltb x p l) (lt-ltb p (p + 1) (omega arith)))
+  pub up_to-within : (d x p q : ℕ) → x < q → q < p → late_up_to d x p q ≡ true
+  up_to-within d x p q l m = right (is_late_before image d q) (and_from (ltb x q) (ltb q p) (lt-ltb x q l) (lt-ltb q p m))
     where
       right : (b : Bool) {c : Bool} → c ≡ true → (b || c) ≡ true
       right true h = refl
       right false h = h
 
-  pub up_to-not : (d x p : ℕ) → is_late_before image d p ≡ false → late_up_to d x p p ≡ false
-  up_to-not d x p e = or_from (is_late_before image d p) (ltb x p && ltb p p) e (and_right (ltb x p) (ltb p p) (le-ltb p p (omega arith)))
+  pub up_to-not : (d x p q : ℕ) → p ≤ q → is_late_before image d q ≡ false → late_up_to d x p q ≡ false
+  up_to-not d x p q l e = or_from (is_late_before image d q) (ltb x q && ltb q p) e (and_right (ltb x q) (ltb q p) (le-ltb q p l))
 
   pub up_to-end : (d x p q : ℕ) → deferred image d ≡ Some x → p ≡ x + 1 + references_in image.layout (moved_word image x) → late_up_to d x p q ≡ is_late_before image (d + 1) q
   up_to-end d x p q e end = ap (λ b. is_late_before image d q || (ltb x q && b)) (same_Bool (ltb q p) (leb q (x + references_in image.layout (moved_word image x)))

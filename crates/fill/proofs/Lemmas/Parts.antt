@@ -1,5 +1,5 @@
 -- Parts of a heap: consecutive regions at whose borders no deferred object has references on both sides.
-use Rattle.std.proofs.Common.{◌≡◌, ℕ, zero, suc, ◌+◌, ◌*◌, ◌^◌, ◌≤◌, ◌<◌, inl, inr, true, false, List, ◌++◌, length, get_or, set, take, drop, refl, sym, ◌∙◌, ap, subst, arith}
+use Rattle.std.proofs.Common.{◌≡◌, ℕ, zero, suc, ◌+◌, ◌*◌, ◌^◌, ◌≤◌, ◌<◌, inl, inr, true, false, List, ◌++◌, length, get_or, take, drop, refl, sym, ◌∙◌, ap, subst, arith}
 use Rattle.std.specs.Prelude.{Option, None, Some, map}
 use Rattle.std.specs.List.{concat, range_with_len}
 use Rattle.std.proofs.Math.Nat.{div-add-mod'}
@@ -10,6 +10,7 @@ use Rattle.std.proofs.lemmas.List.{map-append}
 use Rattle.std.proofs.lemmas.List.Elements.{All-append}
 use Rattle.std.proofs.lemmas.List.Folds.{concat-append}
 use Rattle.std.proofs.lemmas.List.FromFn.{get_or-map-range_with_len, length-map-range_with_len}
+use Rattle.raw_region.specs.Region.{with_words, part}
 use Rattle.object_heap.specs.Layout.{references_in}
 use Rattle.object_heap.specs.HeapImage.{HeapImage, IsValid, FormHeap, AreBlocks, heap_words, region_words, region_count, region_of, start_of}
 use Rattle.summary.specs.Compaction.{moved_word, redirected_word}
@@ -19,7 +20,7 @@ use Rattle.fill.proofs.Lemmas.Lists.{range_with_len-add}
 use Rattle.fill.proofs.Lemmas.Regions.{region_some}
 use Rattle.fill.specs.MovedHeap.{moved_regions_from, redirected_where, words_from, is_late_before, IsCut, IsMovedPart, IsUpdatedPart}
 use Rattle.fill.proofs.Lemmas.WrittenTo.{next_start, all_regions}
-use Rattle.fill.proofs.Lemmas.Late.{length-words, words_not, words_same, words_set, late-parts, late-from, late-all, late_up_to, up_to-other, up_to-here, up_to-not}
+use Rattle.fill.proofs.Lemmas.Late.{length-words, words_not, words_same, words_row, late-parts, late-from, late-all, late_up_to, up_to-outside, up_to-within, up_to-not}
 
 -- the value that is there
 value : Option ℕ → ℕ
@@ -173,14 +174,28 @@ module _ (image : HeapImage) where
     pub late_length : length (concat blocks) ≡ length blocks * S
     late_length = ap length words ∙ length-words image (start_of image first) (length blocks * S) (late_up_to image d x q)
 
-    pub late_old : p < length blocks * S → is_late_before image d q ≡ false → get_or (concat blocks) p 0 ≡ moved_word image q
-    late_old l none = ap (λ ws. get_or ws p 0) words ∙ words_not image (start_of image first) (length blocks * S) (late_up_to image d x q) p l (up_to-not image d x q none)
+    pub late_old : (k : ℕ) → p ≤ k → k < length blocks * S → is_late_before image d (start_of image first + k) ≡ false → get_or (concat blocks) k 0 ≡ moved_word image (start_of image first + k)
+    late_old k low l none = ap (λ ws. get_or ws k 0) words ∙ words_not image (start_of image first) (length blocks * S) (late_up_to image d x q) k l (up_to-not image d x q (start_of image first + k) (omega arith) none)
 
-    pub late_set : (w : ℕ) → p < length blocks * S → x < q → w ≡ redirected_word image (moved_word image q) → set (concat blocks) p w ≡ words_from image first (length blocks) (late_up_to image d x (start_of image first + (p + 1)))
-    late_set w l behind e =
-        let next : q + 1 ≡ start_of image first + (p + 1) = omega arith in
-        ap (λ ws. set ws p w) words
-        ∙ words_set image (start_of image first) (length blocks * S) (late_up_to image d x q) (late_up_to image d x (q + 1)) p w l e (up_to-here image d x q behind) (λ r other. up_to-other image d x q r other)
+    -- m more references of the object are redirected
+    pub late_row : (m : ℕ) (f : ℕ → ℕ) → p + m ≤ length blocks * S → x < q
+        → ((k : ℕ) → p ≤ k → k < p + m → (is_late_before image d (start_of image first + k) ≡ false)
+        × (f (moved_word image (start_of image first + k)) ≡ redirected_word image (moved_word image (start_of image first + k))))
+        → with_words (concat blocks) p (map f (part (concat blocks) p m)) ≡ words_from image first (length blocks) (late_up_to image d x (start_of image first + (p + m)))
+    late_row m f l behind here =
+        let a : ℕ = start_of image first in
+        let next : q + m ≡ a + (p + m) = omega arith in
+        ap (λ ws. with_words ws p (map f (part ws p m))) words
+        ∙ words_row image a (length blocks * S) (late_up_to image d x q) (late_up_to image d x (q + m)) p m l f
+        (λ k low high. (
+          up_to-not image d x q (a + k) (omega arith) (here k low high).0,
+          up_to-within image d x (q + m) (a + k) (omega arith) (omega arith),
+          (here k low high).1,
+        ))
+        (λ k out. up_to-outside image d x q m (a + k) (elim out [
+          | inl low ↦ inl (omega arith)
+          | inr high ↦ inr (omega arith)
+        ]))
         ∙ ap (λ n. words_from image first (length blocks) (late_up_to image d x n)) next
 
   -- a part that is cut in two

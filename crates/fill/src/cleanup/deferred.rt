@@ -7,7 +7,7 @@ ghost use Rattle.summary.specs.RegionData.{deferred};
 ghost use Rattle.summary.specs.Compaction.{compact, moved_word};
 ghost use Rattle.fill.specs.MovedHeap.{moved_regions, cleared, words_from, updated_words, is_late_before, is_reference_behind, last_reference, IsCut, IsMovedPart, IsUpdatedPart};
 
-use super::heap::{set_word, word};
+use super::heap::{redirect_within, word};
 use super::updater::Updater;
 use heap_image::header::references;
 use raw_region::Region;
@@ -79,10 +79,10 @@ fn update_region(regions: &mut [Region], plan: &Plan, first: u32, d: u32)
         late_references(plan, d, begin);
         references_in_part(plan, regions, first, d, begin);
         let header = begin - part_start(plan, first);
-        let start = header + 1;
-        for p in start..start + u64::from(references(word(regions, log, header))) {
-            let reference = word(regions, log, p);
-            set_word(regions, log, p, plan.redirected(reference));
+        let mut at = header + 1;
+        let end = at + u64::from(references(word(regions, log, header)));
+        while at < end {
+            at = redirect_within(regions, plan, at, end);
         }
     }
 }

@@ -55,14 +55,16 @@ i.share1 { background: var(--share1) }
 i.share2 { background: var(--share2) }
 i.share3 { background: var(--share3) }
 i.share4 { background: var(--share4) }
-#band { display: flex }
-#names { flex: none; margin: 1px 6px 0 0; padding: 0; text-align: right; font-size: 12px; line-height: 20px; white-space: nowrap }
-#names li { list-style: none }
+#band { display: grid; grid-template-columns: auto minmax(0, 1fr) auto }
+#names, #filled { margin: 1px 6px 0 0; padding: 0; text-align: right; font-size: 12px; line-height: 20px; white-space: nowrap }
+#filled { margin: 1px 0 0 6px; text-align: left }
+#names li, #filled li { list-style: none }
+.unseen { position: absolute; width: 1px; height: 1px; overflow: hidden; clip-path: inset(50%) }
 #names li.acts { font-weight: bold }
-#chart { flex: auto; min-width: 0; position: relative; overflow: hidden; border: 1px solid var(--edge) }
+#chart { position: relative; overflow: hidden; border: 1px solid var(--edge) }
 #lanes { display: block; width: 100% }
 #cursor { position: absolute; top: 0; bottom: 0; width: 2px; margin-left: -1px; background: var(--frame) }
-#axis { display: flex; justify-content: space-between; gap: 8px; font-size: 12px; color: var(--quiet) }
+#axis { grid-column: 2; display: flex; justify-content: space-between; gap: 8px; font-size: 12px; color: var(--quiet) }
 #near, #workers { margin: 0; font-family: monospace }
 #near { padding-left: 70px }
 #near li { cursor: pointer }
@@ -72,7 +74,7 @@ i.share4 { background: var(--share4) }
 #workers li.acts { font-weight: bold }
 #both { display: flex; gap: 24px; flex-wrap: wrap }
 #both > div { flex: 1 1 320px; min-width: 0 }
-@media (max-width: 480px) { body { margin: 8px } #what { font-size: 16px } #near { padding-left: 56px } }
+@media (max-width: 480px) { body { margin: 8px } #axis { grid-column: 1 / -1 } #filled { font-size: 10px } #what { font-size: 16px } #near { padding-left: 56px } }
 </style>
 </head>
 <body>
@@ -81,13 +83,13 @@ i.share4 { background: var(--share4) }
 
 /// The part between the names of the files and the moves.
 pub(crate) const BEFORE_MOVES: &str = r##"</p>
-<div class="controls">
-<button id="begin" type="button">Start</button>
-<button id="back" type="button">Back</button>
-<button id="play" type="button">Play</button>
-<button id="step" type="button">Step</button>
-<button id="end" type="button">End</button>
-<label>at <select id="speed">
+<div class="controls" role="group" aria-label="the line that is shown">
+<button id="begin" type="button" aria-label="Start: go to the first line" aria-keyshortcuts="Home">Start</button>
+<button id="back" type="button" aria-label="Back by a line" aria-keyshortcuts="ArrowLeft">Back</button>
+<button id="play" type="button" aria-keyshortcuts="Space">Play</button>
+<button id="step" type="button" aria-label="Step on by a line" aria-keyshortcuts="ArrowRight">Step</button>
+<button id="end" type="button" aria-label="End: go to the last line" aria-keyshortcuts="End">End</button>
+<label>at <select id="speed" aria-label="lines a second">
 <option value="1">1 line</option>
 <option value="5" selected>5 lines</option>
 <option value="25">25 lines</option>
@@ -97,32 +99,32 @@ pub(crate) const BEFORE_MOVES: &str = r##"</p>
 <label>Go to line <input id="wanted" type="number" min="1" value="1" step="1"></label>
 <span id="line"></span>
 </div>
-<input id="slider" type="range" min="1" value="1" step="1" aria-label="line">
-<div aria-live="polite"><p id="what"></p><p id="why"></p></div>
-<h2>Workers and what they have in hand</h2>
-<div id="band"><ul id="names" aria-hidden="true"></ul><div id="chart"><canvas id="lanes" role="img" aria-label="a lane for each worker, along the lines of the schedule"></canvas><div id="cursor"></div></div></div>
-<div id="axis"><span>line 2</span><span>lines of the schedule, not time</span><span id="last"></span></div>
+<input id="slider" type="range" min="1" value="1" step="1" aria-label="line of the schedule">
+<p class="legend">Keys: space plays and pauses; left and right go back and on by a line, page up and page down by a hundred; Home and End go to the first and the last line; r and w go to the next line of the region and of the worker, R and W to the one before.</p>
+<div id="said" aria-live="polite" aria-atomic="true"><p id="what"></p><p id="why"></p></div>
+<h2>Workers: what they have in hand, and how much each fills</h2>
+<div id="band"><ul id="names" aria-hidden="true"></ul><div id="chart"><canvas id="lanes" role="img" aria-label="a lane for each worker, along the lines of the schedule"></canvas><div id="cursor"></div></div><ul id="filled" aria-label="what each worker fills"></ul>
+<div id="axis"><span>line 2</span><span>lines of the schedule, not time</span><span id="last"></span></div></div>
 <p class="legend" id="bars">A coloured bar is a region from its claim to its completion, a hollow one from there to its settling. A mark below a bar: a drain freed a region.</p>
 <p class="legend" id="shares" hidden>Too many regions for a bar each: colour shows in how many of its lines a worker has a region in hand: <span><i class="share0"></i>none</span> <span><i class="share1"></i>less than a third</span> <span><i class="share2"></i>less than two thirds</span> <span><i class="share3"></i>most</span> <span><i class="share4"></i>all</span></p>
 <h2>Regions of the heap</h2>
-<div id="regions"></div>
+<div id="regions" role="img" aria-label="a cell for each region of the heap; Region, below, tells of one"></div>
 <p class="legend"><span><i class="start"></i>as at the start</span> <span><i class="claimed"></i>claimed</span> <span><i class="filling"></i>being filled</span> <span><i class="filled"></i>filled</span> <span><i class="settled"></i>settled</span> <span><i class="outside"></i>not to be filled.</span> The small number in a cell is the number of regions that have still to read it. <label id="numbered" hidden><input id="numbers" type="checkbox"> Numbers in all cells</label></p>
-<div class="controls">
+<div class="controls" role="group" aria-label="lines of a region">
 <label>Region <input id="region" type="number" min="0" value="0" step="1"></label>
-<button id="region-back" type="button">Line before</button>
-<button id="region-on" type="button">Next line</button>
+<button id="region-back" type="button" aria-label="Line before, of this region" aria-keyshortcuts="Shift+R">Line before</button>
+<button id="region-on" type="button" aria-label="Next line, of this region" aria-keyshortcuts="R">Next line</button>
 <span id="about" aria-live="polite"></span>
 </div>
-<div class="controls">
+<div class="controls" role="group" aria-label="lines of a worker">
 <label>Worker <select id="worker"></select></label>
-<button id="worker-back" type="button">Line before</button>
-<button id="worker-on" type="button">Next line</button>
+<button id="worker-back" type="button" aria-label="Line before, of this worker" aria-keyshortcuts="Shift+W">Line before</button>
+<button id="worker-on" type="button" aria-label="Next line, of this worker" aria-keyshortcuts="W">Next line</button>
 </div>
 <div id="both">
 <div><h2>Lines around this one</h2><ol id="near"></ol></div>
 <div><h2>Workers</h2><ul id="workers"></ul></div>
 </div>
-<p class="legend">Keys: space plays and pauses; left and right go back and on by a line, page up and page down by a hundred; Home and End go to the first and the last line; r and w go to the next line of the region and of the worker, R and W to the one before.</p>
 <script type="text/plain" id="moves">
 "##;
 

@@ -6,21 +6,25 @@ pub(crate) const SCRIPT: &str = r##"'use strict';
   const CHECKPOINT = 1000;
   const STAGES = ['start', 'claimed', 'filling', 'filled', 'settled'];
   const NAMES = ['as at the start', 'claimed', 'being filled', 'filled', 'settled'];
+  const DOES = ['', 'has claimed', 'fills', 'has filled', '']; // what a worker does with a region in hand
   const [START, CLAIMED, FILLING, FILLED, SETTLED] = STAGES.keys();
   const element = (id) => document.getElementById(id);
 
-  // The numbers of regions and of regions to fill, and the pairs of destination and source.
+  // The numbers of regions, of those to fill and of those of the dense prefix; the pairs of destination and other source; and
+  // for each destination its sources, each with the number of words that are written once all from there are.
   const readMoves = (text) => {
     const rows = text.trim().split('\n').map((row) => row.split(' '));
-    const [, regions, , filled] = rows[0];
-    const pairs = rows.slice(1).map((row) => row.map(Number));
-    const readers = new Map();
-    const places = new Map();
-    pairs.forEach(([destination, source], place) => {
-      readers.set(source, [...(readers.get(source) || []), place]);
-      places.set(destination + ' ' + source, place);
+    const [, regions, , filled, , prefix] = rows[0];
+    const [pairs, readers, places, sources] = [[], new Map(), new Map(), new Map()];
+    rows.slice(1).forEach((row) => {
+      const [destination, source, end] = row.map(Number);
+      sources.set(destination, [...(sources.get(destination) || []), [source, end]]);
+      if (source === destination) return;
+      readers.set(source, [...(readers.get(source) || []), pairs.length]);
+      places.set(destination + ' ' + source, pairs.length);
+      pairs.push([destination, source]);
     });
-    return { regions: Number(regions), filled: Number(filled), pairs, readers, places };
+    return { regions: Number(regions), filled: Number(filled), prefix: Number(prefix), pairs, readers, places, sources };
   };
 
   const readSchedule = (text) => {
@@ -113,6 +117,24 @@ pub(crate) const SCRIPT: &str = r##"'use strict';
   const list = (regions) => (regions.length === 1
     ? 'region ' + regions[0] + ' has' : 'regions ' + regions.join(' and ') + ' have') + ' still to read it';
   const isToFill = (region) => region < moves.filled;
+  const counted = (number, name) => number + ' ' + name + (number === 1 ? '' : 's');
+
+  // The regions from which words of a region come: those from one up to, and without, another.
+  const sourcesOf = (region, from, end) => {
+    let begin = 0;
+    return (moves.sources.get(region) || []).filter(([, next]) => {
+      const isOne = begin < end && from < next;
+      begin = next;
+      return isOne;
+    }).map(([source]) => source);
+  };
+  const copies = (region, from, number) => {
+    const these = counted(number, 'word') + ' of region ' + region;
+    const sources = sourcesOf(region, from, from + number);
+    if (region < moves.prefix) return 'leaves ' + these + ' where they are, dead ones as fillers';
+    return 'copies ' + these + ' from ' + (sources.length > 1 ? 'regions ' + sources.join(' and ')
+      : 'region ' + sources[0] + (sources[0] === region ? ' itself' : ''));
+  };
   const begun = (text) => text.charAt(0).toUpperCase() + text.slice(1) + '.';
 
   const whyNot = (state, region) => {
@@ -159,8 +181,8 @@ pub(crate) const SCRIPT: &str = r##"'use strict';
     'Allowed: it claimed the region and has completed it.'],
     poll: (who, state, { reply }) => [who + ' asks whether all is settled: '
       + (reply === 'all' ? 'yes.' : 'no, ' + state.unsettled + ' regions are not.'), 'A poll is always allowed.'],
-    copy: (who, state, { region, other }) => [who + ' writes ' + other + ' words of region ' + region + '; '
-      + (state.written[region] + other) + ' are written now.',
+    copy: (who, state, { region, other }) => [who + ' ' + copies(region, state.written[region], other) + '; written now: '
+      + (state.written[region] + other) + '.',
     'Allowed: it claimed the region, and at least so many words were unwritten.'],
   };
 
@@ -183,6 +205,15 @@ pub(crate) const SCRIPT: &str = r##"'use strict';
   const doing = Array.from(lanes.querySelectorAll('span'));
   element('names').innerHTML = Array.from({ length: workers }, (_, w) => '<li>worker ' + w + '</li>').join('');
   const names = Array.from(element('names').children);
+
+  // What each worker fills in the whole schedule.
+  const filled = Array.from({ length: workers }, () => ({ regions: 0, words: 0 }));
+  calls.forEach(({ worker, verb, other }) => {
+    if (verb === 'complete') filled[worker].regions += 1;
+    if (verb === 'copy') filled[worker].words += other;
+  });
+  const parts = filled.map((its) => counted(its.regions, 'region') + ', ' + counted(its.words, 'word'));
+  element('filled').innerHTML = parts.map((its, w) => '<li><span class="unseen">worker ' + w + ' fills </span>' + its + '</li>').join('');
   element('worker').innerHTML = Array.from({ length: workers }, (_, w) => '<option value="' + w + '">' + w + '</option>').join('');
 
   const showRegions = (state) => {
@@ -226,7 +257,7 @@ pub(crate) const SCRIPT: &str = r##"'use strict';
     });
     const acts = line < FIRST ? -1 : calls[line - FIRST].worker;
     held.forEach((regions, w) => {
-      doing[w].textContent = regions.length ? regions.map((r) => NAMES[state.stage[r]] + ': region ' + r).join(', ') : 'no region in hand';
+      doing[w].textContent = regions.length ? regions.map((r) => DOES[state.stage[r]] + ' region ' + r).join(', ') : 'has no region in hand';
       doing[w].parentNode.className = w === acts ? 'acts' : '';
       names[w].className = w === acts ? 'acts' : '';
     });
@@ -250,6 +281,7 @@ pub(crate) const SCRIPT: &str = r##"'use strict';
   const show = (wanted) => {
     current = Math.max(1, Math.min(last, Math.floor(wanted) || 1));
     now = stateAfter(current);
+    if (current === last) pause();
     const [what, why] = explain(current);
     showRegions(now);
     frame(current);
@@ -259,16 +291,17 @@ pub(crate) const SCRIPT: &str = r##"'use strict';
     element('why').textContent = why;
     element('line').textContent = 'line ' + current + ' of ' + last;
     element('slider').value = current;
+    element('slider').setAttribute('aria-valuetext', 'line ' + current + ' of ' + last);
     element('wanted').value = current;
     element('about').textContent = about(looked, now);
     element('cursor').style.left = (last > 1 ? ((current - 1) / (last - 1)) * 100 : 0) + '%';
-    if (current === last) pause();
   };
 
   const pause = () => {
     if (timer !== null) clearInterval(timer);
     timer = null;
     element('play').textContent = 'Play';
+    element('said').setAttribute('aria-live', 'polite');
   };
 
   // The line that plays is computed from the clock, so that slow drawing skips lines and doesn't slow the play down.
@@ -282,6 +315,7 @@ pub(crate) const SCRIPT: &str = r##"'use strict';
     if (current === last) show(1);
     begin();
     element('play').textContent = 'Pause';
+    element('said').setAttribute('aria-live', 'off'); // more lines than anybody can be told
     timer = setInterval(tick, Math.max(16, Math.min(100, 500 / origin.speed)));
   };
 
@@ -464,6 +498,8 @@ pub(crate) const SCRIPT: &str = r##"'use strict';
     show: jump,
     line: () => current,
     isPlaying: () => timer !== null,
+    workers: () => doing.map((it) => it.textContent),
+    filled: parts,
     explain,
     stateAt: (line) => {
       const state = stateAfter(line);

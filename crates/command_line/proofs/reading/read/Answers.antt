@@ -1,5 +1,5 @@
 use Rattle.std.proofs.Common.{◌≡◌, ◌∙◌, ap, codes, [], refl, subst, sym, map, MatchResult}
-use Rattle.std.specs.Prelude.{Result, string_bytes}
+use Rattle.std.specs.Prelude.{Result, Ok, Err, string_bytes}
 use Rattle.clap.specs.Words.{HasKind, app_of, fault_of, is_simple_and_free, takes}
 use Rattle.command_line.specs.CommandLine.{commands}
 use Rattle.command_line.specs.Request.{IsFor, IsNoUsage}
@@ -14,12 +14,17 @@ returns-in-Ok-clause-calls c = λ name call. c.parse_request.ensures.calls name
     (met_by_call (app_of c.in_ok-words.field-0) (map string_bytes c.args.words.now) name c.in-Ok.matches
     c.in_ok-words.ensures c.in-Ok.ensures.matches call)
 
+-- what never fails fails as it may
+never_fails : (r : Result Request Unread) → MatchResult r (IsFor (codes "board")) (λ _. ⊥)
+    → MatchResult r (IsFor (codes "board")) (λ unread. unread ≡ Memory)
+never_fails (Ok request) is_board = is_board
+never_fails (Err unread) none = absurd none
+
 pub returns-in-Ok-clause-board : goal.returns-in-Ok-clause-board
 returns-in-Ok-clause-board c = λ words_are.
-    subst (λ (r : Result Request Unread). MatchResult r (IsFor (codes "board")) (λ unread. unread ≡ Memory))
-    (sym (c.parse_request.ensures.board
+    never_fails _ (c.parse_request.ensures.board
     (met_by_call (app_of c.in_ok-words.field-0) (map string_bytes c.args.words.now) (codes "board") c.in-Ok.matches
-    c.in_ok-words.ensures c.in-Ok.ensures.matches (calls_board (map string_bytes c.args.words.now) words_are)))) refl
+    c.in_ok-words.ensures c.in-Ok.ensures.matches (calls_board (map string_bytes c.args.words.now) words_are)))
 
 pub returns-in-Err-clause-calls : goal.returns-in-Err-clause-calls
 returns-in-Err-clause-calls c = λ name call.

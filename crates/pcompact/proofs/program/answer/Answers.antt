@@ -33,3 +33,18 @@ returns-in-Ok-clause-import g c = λ call.
     let object : c.push_json.new.json.items ≡ json_of text =
     c.in-Ok.ensures ∙ ap₂ (λ (begun shown : List ℕ). begun ++ json_of shown) c.in_ok-object.ensures.items c.as_slice.ensures.value in
     (text, c.in_ok-done.ensures.import call, object ∙ ap (λ json. as_shown json text) (sym asked))
+
+pub returns-then-not-manner-clause-report : goal.returns-then-not-manner-clause-report
+returns-then-not-manner-clause-report g c = λ call.
+    let plain : c.args.manner.json ≡ false = not-true c.args.manner.json c.if-not-manner.true in
+    IfOk-weaker c.answer.result _ _
+    (λ done is. (done.text.items, is, ap (λ json. as_shown json done.text.items) (sym plain)))
+    (c.answer.ensures.report call)
+
+pub returns-in-Ok-clause-report : goal.returns-in-Ok-clause-report
+returns-in-Ok-clause-report g c = λ call.
+    let asked : c.args.manner.json ≡ true = not-false c.args.manner.json c.if-not-manner.false in
+    let text : List ℕ = c.in_ok-done.done.text.items in
+    let object : c.push_json.new.json.items ≡ json_of text =
+    c.in-Ok.ensures ∙ ap₂ (λ (begun shown : List ℕ). begun ++ json_of shown) c.in_ok-object.ensures.items c.as_slice.ensures.value in
+    (text, c.in_ok-done.ensures.report call, object ∙ ap (λ json. as_shown json text) (sym asked))

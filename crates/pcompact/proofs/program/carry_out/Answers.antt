@@ -21,3 +21,13 @@ pub returns-else-manner-clause-import : goal.returns-else-manner-clause-import
 returns-else-manner-clause-import g c = λ call good.
     let printed = c.in-Ok.ensures.import call in
     (printed.0, printed.1, subst (Appends _ _) printed.2 c.in_default.ensures.shown)
+
+pub returns-then-manner-clause-report : goal.returns-then-manner-clause-report
+returns-then-manner-clause-report g c = λ call good.
+    let printed = c.in-Ok.ensures.report call in
+    (printed.0, printed.1, subst (Appends _ _) printed.2 c.in_default.ensures.shown)
+
+pub returns-else-manner-clause-report : goal.returns-else-manner-clause-report
+returns-else-manner-clause-report g c = λ call good.
+    let printed = c.in-Ok.ensures.report call in
+    (printed.0, printed.1, subst (Appends _ _) printed.2 c.in_default.ensures.shown)

@@ -1,7 +1,7 @@
 use Rattle.std.proofs.Common.{◌≡◌, None, Some, codes, subst, sym}
 use Rattle.std.proofs.Math.Logic.{⊎_elim}
 use Rattle.command_line.specs.CommandLine.{HaveBeginning, HaveWord, IsCallOf}
-use Rattle.command_line.specs.Request.{rows_of}
+use Rattle.command_line.specs.Request.{asks_steps, rows_of}
 use Rattle.pcompact.proofs.program.run.Goals as goal
 
 some_none : {A : Type 0} {x : A} → Some x ≡ None → ⊥
@@ -47,6 +47,32 @@ returns-in-Some-clause-import g c = λ line good. ⊎_elim
       printed.1,
       printed.2,
       λ rows. subst (HaveBeginning (codes "--histogram")) c.in-Some.ensures.words (printed.3 rows),
+      printed.4,
+      λ json. subst (HaveWord (codes "--json")) c.in-Some.ensures.words (printed.5 json),
+      printed.6,
+    ))
+    line
+
+pub returns-in-Ok-clause-report : goal.returns-in-Ok-clause-report
+returns-in-Ok-clause-report g c = λ line good. ⊎_elim
+    (λ call.
+    let name = codes "board" in
+    let asked = c.as_asked-request.ensures.name name (c.in-Ok.ensures.calls name call) in
+    let printed = c.carry_out.ensures.report asked good in
+    (printed.0, asks_steps c.as_asked-request.result, printed.1, c.as_asked-request.ensures.steps, c.of-manner.result.json, c.of-manner.ensures.json, printed.2))
+    (λ plain. absurd (c.in-Ok.ensures.refused plain.0))
+    line
+
+pub returns-in-Some-clause-report : goal.returns-in-Some-clause-report
+returns-in-Some-clause-report g c = λ line good. ⊎_elim
+    (λ call. absurd (some_none (c.in-Some.ensures.usage_alone (c.in-Err.ensures.calls (codes "board") call))))
+    (λ plain.
+    let called = subst (IsCallOf (codes "board")) (sym c.in-Some.ensures.plain) plain.1 in
+    let printed = c.run_respelled.ensures.report called good in (
+      printed.0,
+      printed.1,
+      printed.2,
+      λ steps. subst (HaveBeginning (codes "--steps")) c.in-Some.ensures.words (printed.3 steps),
       printed.4,
       λ json. subst (HaveWord (codes "--json")) c.in-Some.ensures.words (printed.5 json),
       printed.6,

@@ -2,13 +2,13 @@ use Rattle.std.proofs.Common.{◌≡◌, ◌+◌, ◌-◌, ◌*◌, ◌≤◌, �
 use Rattle.std.specs.List.{concat}
 use Rattle.object_heap.specs.Header.{references_of}
 use Rattle.object_heap.specs.Layout.{references_in}
-use Rattle.object_heap.specs.HeapImage.{HeapImage, FormHeap, region_words, start_of, is_null_or_live}
+use Rattle.object_heap.specs.HeapImage.{HeapImage, region_words, start_of, is_null_or_live}
 use Rattle.summary.specs.Compaction.{moved_word, redirected}
 use Rattle.fill.specs.MovedHeap.{is_late_before, is_reference_behind, words_from}
 use Rattle.fill.proofs.Lemmas.Late.{length-words, words_not, words_same, late-next, or_false, late_up_to, behind-from, up_to-begin, up_to-end}
-use Rattle.fill.proofs.Lemmas.Parts.{late_length, late_old, late_set}
+use Rattle.fill.proofs.Lemmas.Parts.{late_length, late_old, late_row}
 use Rattle.fill.proofs.cleanup.deferred.update_region.Goals as goal
-use Rattle.fill.proofs.cleanup.deferred.update_region.Goals.{After-from, In-loop-p}
+use Rattle.fill.proofs.cleanup.deferred.update_region.Goals.{After-from, In-loop-at}
 
 pub word-requires-clause-inside : goal.word-requires-clause-inside
 word-requires-clause-inside c =
@@ -20,7 +20,7 @@ word-requires-clause-inside c =
     let start = c.part_start.ensures in
     omega arith
 
--- the references that are visited
+-- how many references there are
 count : (c : After-from) → c.from.result ≡ references_in c.args.plan.now.layout (moved_word c.args.plan.now c.in-Some.begin)
 count c =
     let image : HeapImage = c.args.plan.now in
@@ -38,8 +38,8 @@ count c =
     ∙ ap (moved_word image) at in
     c.from.ensures ∙ c.references.ensures ∙ ap references_of is ∙ sym (c.planned_image_is_own.ensures.references (moved_word image x))
 
-pub loop-p-init : goal.loop-p-init
-loop-p-init c =
+pub loop-at-init : goal.loop-at-init
+loop-at-init c =
     let image : HeapImage = c.args.plan.now in
     let d : ℕ = c.args.d in
     let x : ℕ = c.in-Some.begin in
@@ -48,83 +48,109 @@ loop-p-init c =
     let low = c.references_in_part.ensures.0 in
     let start = c.part_start.ensures in
     let next : x + 1 ≡ a + (k + 1) = omega arith in
+    let all = count c in
     record {
       heap = c.requires.heap;
-      end = ap (λ n. k + 1 + n) (count c);
+      end = omega arith;
+      low = omega arith;
+      high = omega arith;
       words = c.requires.words
           ∙ words_same image a (length c.args.regions.now * region_words image) (is_late_before image d) (late_up_to image d x (x + 1)) (λ p l m. up_to-begin image d x p)
           ∙ ap (λ p. words_from image c.args.first (length c.args.regions.now) (late_up_to image d x p)) next;
     }
 
--- a reference that is visited: its address, and how many words the part has left
-module _ (c : In-loop-p) where
+-- the references that are left
+module _ (c : In-loop-at) where
+  abbrev image : HeapImage
+  image = c.args.plan.now
+
+  abbrev a : ℕ
+  a = start_of image c.args.first
+
+  abbrev x : ℕ
+  x = c.in-Some.begin
+
+  abbrev last : ℕ
+  last = x - c.part_start.result + 1 + c.from.result
+
   abbrev still : ℕ
-  still = length c.loop-p.regions * region_words c.args.plan.now
+  still = length c.loop-at.regions * region_words image
 
-  abbrev q : ℕ
-  q = start_of c.args.plan.now c.args.first + c.loop-p.p
-
-  come_to : (c.in-Some.begin < q) × (q ≤ c.in-Some.begin + references_in c.args.plan.now.layout (moved_word c.args.plan.now c.in-Some.begin)) × (c.loop-p.p < still)
-  come_to =
-      let same : still ≡ length c.args.regions.now * region_words c.args.plan.now = ap (λ n. n * region_words c.args.plan.now) c.loop-p.auto.regions in
-      let low = c.references_in_part.ensures.0 in
+  -- they lie in the part
+  most : last ≤ still
+  most =
+      let same : still ≡ length c.args.regions.now * region_words image = ap (λ n. n * region_words image) c.loop-at.auto.regions in
       let high = c.references_in_part.ensures.1 in
-      let start = c.part_start.ensures in
-      let from = c.loop-p.auto.p in
-      let end = c.loop-p.invariant.end in
-      let few = c.loop-p-test.true in
-      (omega arith, omega arith, omega arith)
+      let end = c.loop-at.invariant.end in
+      omega arith
 
-  inside : c.loop-p.p < length (concat c.loop-p.regions)
-  inside = let all = late_length c.args.plan.now c.args.first c.args.d c.in-Some.begin c.loop-p.p c.loop-p.regions c.loop-p.invariant.words in let to = come_to in omega arith
+  behind : (k : ℕ) → c.loop-at.at ≤ k → k < last → is_reference_behind image x (a + k) ≡ true
+  behind k l m = let low = c.loop-at.invariant.low in let end = c.loop-at.invariant.end in behind-from image x (a + k) (omega arith) (omega arith)
 
-  behind : is_reference_behind c.args.plan.now c.in-Some.begin q ≡ true
-  behind = let to = come_to in behind-from c.args.plan.now c.in-Some.begin q to.0 to.1
+  -- they are still the moved words
+  old : (k : ℕ) → c.loop-at.at ≤ k → k < last → get_or (concat c.loop-at.regions) k 0 ≡ moved_word image (a + k)
+  old k l m =
+      let inside = most in
+      late_old image c.args.first c.args.d x c.loop-at.at c.loop-at.regions c.loop-at.invariant.words k l (omega arith) (c.late_references.ensures.once (a + k) (behind k l m))
 
-  -- it is still the moved word
-  old : get_or (concat c.loop-p.regions) c.loop-p.p 0 ≡ moved_word c.args.plan.now q
-  old = late_old c.args.plan.now c.args.first c.args.d c.in-Some.begin c.loop-p.p c.loop-p.regions c.loop-p.invariant.words come_to.2 (c.late_references.ensures.once q behind)
+pub redirect_within-at-requires-clause-inside : goal.redirect_within-at-requires-clause-inside
+redirect_within-at-requires-clause-inside c =
+    let all = late_length c.args.plan.now c.args.first c.args.d c.in-Some.begin c.loop-at.at c.loop-at.regions c.loop-at.invariant.words in
+    let inside = most c.before in
+    omega arith
 
-pub word-reference-requires-clause-inside : goal.word-reference-requires-clause-inside
-word-reference-requires-clause-inside c = inside c
+pub redirect_within-at-requires-clause-sound : goal.redirect_within-at-requires-clause-sound
+redirect_within-at-requires-clause-sound c = λ k l m.
+    subst (λ (w : ℕ). is_null_or_live c.args.plan.now w ≡ true) (sym (old c.before k l m)) (c.late_references.ensures.sound (a c.before + k) (behind c.before k l m))
 
-pub redirected-requires : goal.redirected-requires
-redirected-requires c =
-    let here : In-loop-p = c.before.before in
-    subst (λ (w : ℕ). is_null_or_live c.args.plan.now w ≡ true) (sym (c.word-reference.ensures ∙ old here)) (c.late_references.ensures.sound (q here) (behind here))
+pub loop-at-smaller : goal.loop-at-smaller
+loop-at-smaller c =
+    let more = c.redirect_within-at.ensures.more.0 in
+    let last : ℕ = c.in-Some.begin - c.part_start.result + 1 + c.from.result in
+    let test : c.loop-at.at < last = c.loop-at-test.true in
+    let smaller : last - c.redirect_within-at.result < last - c.loop-at.at = omega arith in
+    smaller
 
-pub set_word-requires-clause-inside : goal.set_word-requires-clause-inside
-set_word-requires-clause-inside c = inside c.before.before.before
-
-pub loop-p-preserved : goal.loop-p-preserved
-loop-p-preserved c =
+pub loop-at-preserved : goal.loop-at-preserved
+loop-at-preserved c =
     let image : HeapImage = c.args.plan.now in
-    let p : ℕ = c.loop-p.p in
-    let here : In-loop-p = c.before.before.before.before.before in
-    let to = come_to here in
-    let is : c.word-reference.result ≡ moved_word image (q here) = c.word-reference.ensures ∙ old here in
+    let at : ℕ = c.loop-at.at in
+    let next : ℕ = c.redirect_within-at.result in
+    let here : In-loop-at = c.before.before.before in
+    let low = c.loop-at.invariant.low in
+    let more = c.redirect_within-at.ensures.more.0 in
+    let few = c.redirect_within-at.ensures.more.1 in
+    let inside = most here in
+    let is : at + (next - at) ≡ next = omega arith in
     record {
-      heap = subst (λ (log : ℕ). FormHeap log c.set_word.new.regions) c.region_log-log.ensures.value c.set_word.ensures.heap;
-      end = c.loop-p.invariant.end;
-      words = c.set_word.ensures.value
-          ∙ late_set image c.args.first c.args.d c.in-Some.begin p c.loop-p.regions c.loop-p.invariant.words c.redirected.result to.2 to.0 (c.redirected.ensures ∙ ap (redirected image) is ∙ sym (c.planned_image_is_own.ensures.redirects (moved_word image (q here))))
-          ∙ ap (λ n. words_from image c.args.first n (late_up_to image c.args.d c.in-Some.begin (start_of image c.args.first + (p + 1)))) (sym c.set_word.auto.regions);
+      heap = c.redirect_within-at.ensures.heap;
+      end = c.loop-at.invariant.end;
+      low = omega arith;
+      high = few;
+      words = c.redirect_within-at.ensures.value
+          ∙ late_row image c.args.first c.args.d c.in-Some.begin at c.loop-at.regions c.loop-at.invariant.words (next - at) (redirected image) (omega arith) low
+          (λ k l m. (
+            c.late_references.ensures.once (start_of image c.args.first + k) (behind here k l (omega arith)),
+            sym (c.planned_image_is_own.ensures.redirects (moved_word image (start_of image c.args.first + k))),
+          ))
+          ∙ ap (λ n. words_from image c.args.first (length c.loop-at.regions) (late_up_to image c.args.d c.in-Some.begin (start_of image c.args.first + n))) is
+          ∙ ap (λ n. words_from image c.args.first n (late_up_to image c.args.d c.in-Some.begin (start_of image c.args.first + next))) (sym c.redirect_within-at.auto.regions);
     }
 
-pub returns-after-loop-p-clause-words : goal.returns-after-loop-p-clause-words
-returns-after-loop-p-clause-words c =
+pub returns-after-loop-at-clause-words : goal.returns-after-loop-at-clause-words
+returns-after-loop-at-clause-words c =
     let image : HeapImage = c.args.plan.now in
     let d : ℕ = c.args.d in
     let x : ℕ = c.in-Some.begin in
     let a : ℕ = start_of image c.args.first in
-    let low = c.references_in_part.ensures.0 in
-    let start = c.part_start.ensures in
-    let most = c.loop-p.auto.p-end (omega arith) in
-    let last : a + c.loop-p.p ≡ x + 1 + references_in image.layout (moved_word image x) = omega (arith, c.loop-p.auto.p, most, c.loop-p.invariant.end, c.loop-p-test.false) in
-    c.loop-p.invariant.words
-    ∙ ap (λ n. words_from image c.args.first n (late_up_to image d x (a + c.loop-p.p))) c.loop-p.auto.regions
-    ∙ words_same image a (length c.args.regions.now * region_words image) (late_up_to image d x (a + c.loop-p.p)) (is_late_before image (d + 1)) (λ r l m.
-    up_to-end image d x (a + c.loop-p.p) r (sym c.in-Some.ensures) last)
+    let end : ℕ = x - c.part_start.result + 1 + c.from.result in
+    let most : c.loop-at.at ≤ end = c.loop-at.invariant.high in
+    let none : end ≤ c.loop-at.at = c.loop-at-test.false in
+    let last : a + c.loop-at.at ≡ x + 1 + references_in image.layout (moved_word image x) = omega (arith, c.loop-at.invariant.end) in
+    c.loop-at.invariant.words
+    ∙ ap (λ n. words_from image c.args.first n (late_up_to image d x (a + c.loop-at.at))) c.loop-at.auto.regions
+    ∙ words_same image a (length c.args.regions.now * region_words image) (late_up_to image d x (a + c.loop-at.at)) (is_late_before image (d + 1)) (λ r l m.
+    up_to-end image d x (a + c.loop-at.at) r (sym c.in-Some.ensures) last)
 
 pub returns-in_default-clause-words : goal.returns-in_default-clause-words
 returns-in_default-clause-words c =

@@ -1,0 +1,186 @@
+#!/usr/bin/env bash
+# Puts the library into a runtime that exists: builds OCaml's bytecode runtime with examples/ocaml/compact.c in its compaction,
+# and runs a program of ours, OCaml's compiler and programs of its test suite with a compaction after each major cycle, by 1 and
+# by 4 workers. All must print and write what they do by the unchanged runtime. Takes some minutes of one processor, and Debian's
+# source package of OCaml: where that can't be fetched, all is skipped.
+#
+# usage: tests/hosts/ocaml.sh [ocaml_4.13.1.orig.tar.gz]
+set -uo pipefail
+
+cd "$(dirname -- "$(readlink -f -- "$0")")/../.."
+. tests/support/callers.sh
+
+ocaml=$room/ocaml
+runtime=$ocaml/runtime/ocamlrun
+compacting=$ocaml/runtime/ocamlrun-pcompact
+# A young generation and chunks as small as OCaml has them.
+often=O=0,s=512,h=60k,i=4k,o=5
+# No program of the test suite begins once so many seconds of a processor are used.
+budget=480
+slides=0
+all_slides=0
+
+# Fetches the package into the room, by lists of its own: those of the machine stay as they are. Prints the archive's path.
+fetch() {
+    local types=/etc/apt/sources.list.d/debian.sources apt
+    command -v apt-get >/dev/null && [ -f "$types" ] || return
+    mkdir -p "$room/apt/lists/partial" "$room/apt/archives/partial"
+    sed 's/^Types: deb$/Types: deb-src/' "$types" >"$room/apt/debian.sources"
+    apt=(timeout 120 apt-get -q -o "Dir::Etc::sourcelist=$room/apt/debian.sources" -o Dir::Etc::sourceparts=-
+        -o "Dir::State::lists=$room/apt/lists" -o "Dir::Cache=$room/apt" -o Acquire::Retries=1)
+    (cd "$room/apt" && "${apt[@]}" update && "${apt[@]}" source --download-only ocaml) >"$room/said" 2>&1 || return
+    find "$room/apt" -name 'ocaml_4.13.*.orig.tar.*'
+}
+
+# Builds what runs bytecode and the standard library, by the compiler that comes as bytecode.
+build_ocaml() (
+    mkdir "$ocaml" && tar -xf "$1" -C "$ocaml" --strip-components=1 && cd "$ocaml" &&
+        ./configure --disable-{native-compiler,shared,systhreads,{debug,instrumented}-runtime,debugger,ocamldoc,ocamltest} &&
+        nice make -j2 coldstart
+)
+
+# Puts our call into compact.c, around the passes that redirect and move, and has each major cycle end in a compaction, of small
+# heaps too.
+patch_compaction() {
+    sed -e 's/^void caml_invert_root (/int slide_heap (void);\nvoid own_invert_root (/' \
+        -e 's|^  /\* Second pass: invert pointers\.|  if (!slide_heap ()) {\n&|' \
+        -e 's|^  /\* Shrink the heap if needed\. \*/|  }\n&|' \
+        -e '/(Caml_state->stat_major_collections < 3) return;/d' \
+        -e '/(Caml_state->stat_heap_wsz <= 2 \* caml_clip_heap_chunk_wsz (0)) return;/d' compact.c >patched.c
+}
+
+# Links the runtime with its compaction patched, with our file, and with the library.
+build_compacting() (
+    words=("${CC:-cc}" -g -O2 -fno-strict-aliasing -fwrapv -D_FILE_OFFSET_BITS=64 -DCAML_NAME_SPACE -I.)
+    cd "$ocaml/runtime" && patch_compaction && "${words[@]}" -c patched.c &&
+        "${words[@]}" -Wall -Wextra -Werror "-I$library" -c -o slide.o "$top/examples/ocaml/compact.c" &&
+        cp libcamlrun.a patched.a && ar d patched.a compact.b.o &&
+        "${words[@]}" -Wl,-E prims.o patched.o slide.o patched.a "$library/libpcompact.a" -lm -ldl -pthread -o "$compacting"
+)
+
+compile() {
+    "$runtime" "$ocaml/boot/ocamlc" -w -a -nostdlib -I "$ocaml/stdlib" -o "$1" "$2" >"$room/said" 2>&1
+}
+
+# Runs a program by the unchanged runtime. What it printed, and its status, are kept.
+run_plainly() {
+    (cd "$room/here" && ulimit -t 30 && exec "$runtime" "$@") >"$room/plain" 2>"$room/plain-errors" </dev/null
+    echo "status $?" >>"$room/plain-errors"
+}
+
+# Runs it with compactions by so many workers, and these words in OCAMLRUNPARAM. Sets `slides` to how often the library slid the
+# heap, and takes what told so out of the output. A minute of a processor ends it with status 152.
+run_compacting() {
+    local workers=$1 parameters=v=0x1000,$2
+    shift 2
+    (cd "$room/here" && ulimit -t 60 && PCOMPACT_WORKERS=$workers OCAMLRUNPARAM=$parameters exec "$compacting" "$@") \
+        >"$room/slid" 2>"$room/slid-errors" </dev/null
+    echo "status $?" >>"$room/slid-errors"
+    slides=$(grep -c "Slid by libpcompact, $workers workers" "$room/slid-errors")
+    all_slides=$((all_slides + slides))
+    sed -zi 's/Slid by libpcompact, [0-9]* workers\n//g' "$room/slid-errors"
+}
+
+# Whether that printed what the unchanged runtime did.
+is_same() {
+    cmp "$room/plain" "$room/slid" && cmp "$room/plain-errors" "$room/slid-errors"
+}
+
+# Whether a run with compactions had some, and printed the same.
+is_same_slid() {
+    run_compacting "$@"
+    [ "$slides" -gt 0 ] && is_same
+}
+
+# Counts the compactions of a kind of program, and says how many there were.
+tell() {
+    echo "$1: $all_slides compactions by the library"
+    all_slides=0
+}
+
+# A program with all kinds of references, also in a heap above the 32 MiB of a live list.
+try_heaps() {
+    local workers
+    cp tests/hosts/heaps.ml "$room/here"
+    try compile "$room/heaps" "$room/here/heaps.ml"
+    run_plainly "$room/heaps" 5000
+    for workers in 1 4; do
+        try is_same_slid "$workers" "$often" "$room/heaps" 5000
+        try is_same_slid "$workers" O=0,h=8M,o=1000 "$room/heaps" 5000
+    done
+    tell 'a program with all kinds of references'
+}
+
+# The compiler makes the same bytes of the largest file of the standard library.
+try_compiler() {
+    local workers file=camlinternalFormat
+    local words=("$ocaml/boot/ocamlc" -w -a -nostdlib -I "$ocaml/stdlib" -c "$file.ml")
+    cp "$ocaml/stdlib/$file.ml" "$room/here"
+    run_plainly "${words[@]}"
+    try mv "$room/here/$file.cmo" "$room/made"
+    for workers in 1 4; do
+        try is_same_slid "$workers" O=0,s=8k,i=128k "${words[@]}"
+        try cmp "$room/made" "$room/here/$file.cmo"
+    done
+    tell 'the compiler'
+}
+
+# Whether the output of the unchanged runtime is what the test suite has for it.
+is_reference() {
+    sed '$d' "$room/plain-errors" | cat "$room/plain" - | cmp -s - "$1"
+}
+
+# Tries whether compactions by so many workers change what a program prints. A failure shows its name and the workers.
+try_workers() {
+    run_compacting "$1" "$often" "$room/program"
+    if [ "$(tail -n 1 "$room/slid-errors")" = 'status 152' ]; then
+        skip "$2 by $1 workers, which takes longer than a minute"
+    else
+        try is_same "$2" "$1"
+    fi
+}
+
+# A program of the test suite, unless it needs more than the standard library, or says other things than its reference already by
+# the unchanged runtime.
+try_program() {
+    local workers name=${1#"$ocaml/testsuite/tests/"}
+    [ -f "${1%.ml}.reference" ] && compile "$room/program" "$1" || return
+    run_plainly "$room/program"
+    is_reference "${1%.ml}.reference" || return
+    for workers in 1 4; do try_workers "$workers" "$name"; done
+    programs=$((programs + 1))
+    [ "$slides" = 0 ] || sliding=$((sliding + 1))
+}
+
+# Whether the commands so far took more time of processors than they may.
+is_over_budget() {
+    times >"$room/times"
+    awk -F '[ms ]+' -v "most=$budget" 'NR == 2 { exit 60 * ($1 + $3) + $2 + $4 < most }' "$room/times"
+}
+
+try_suite() {
+    local programs=0 sliding=0 file
+    for file in "$ocaml"/testsuite/tests/*/*.ml; do
+        if is_over_budget; then
+            skip "${file#"$ocaml/testsuite/tests/"} and those behind it, as the time is up"
+            break
+        fi
+        try_program "$file"
+    done
+    is_over_budget || try [ "$programs" -ge 100 ]
+    tell "$programs programs of the test suite, of which $sliding were compacted"
+}
+
+find_needs
+for tool in make ar; do command -v "$tool" >/dev/null || { skip "there is no $tool"; end; }; done
+archive=${1-$(fetch)}
+[ -f "$archive" ] || { skip "Debian's source package of OCaml 4.13 can't be fetched"; end; }
+try build_ocaml "$(readlink -f -- "$archive")"
+[ "$failed" = 0 ] && try build_compacting
+[ "$failed" = 0 ] || end
+mkdir "$room/here"
+export TMPDIR=$room/here
+try_heaps
+try_compiler
+try_suite
+end
