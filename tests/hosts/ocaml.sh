@@ -73,7 +73,7 @@ run_plainly() {
 run_compacting() {
     local workers=$1 parameters=v=0x1000,$2
     shift 2
-    (cd "$room/here" && ulimit -t 60 && PCOMPACT_WORKERS=$workers OCAMLRUNPARAM=$parameters exec "$compacting" "$@") \
+    (cd "$room/here" && ulimit -St 60 && PCOMPACT_WORKERS=$workers OCAMLRUNPARAM=$parameters exec "$compacting" "$@") \
         >"$room/slid" 2>"$room/slid-errors" </dev/null
     echo "status $?" >>"$room/slid-errors"
     slides=$(grep -c "Slid by libpcompact, $workers workers" "$room/slid-errors")
