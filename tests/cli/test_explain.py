@@ -1,6 +1,6 @@
 #!/usr/bin/env python3
 """Runs `verify --explain` and `--ignore-free` of the built program on what a collector with seeded bugs makes of images, in
-each version, and compares all of standard error with a plain model. Without the options the first line alone must come.
+each version, and compares all of standard error with a plain model. Without the options no line of an explanation must come.
 
 usage: tests/cli/test_explain.py [PROGRAM]
 """
@@ -26,7 +26,7 @@ HEAPS = [(version, live, allowance) for version in (1, 2, 3) for live, allowance
 
 
 def answer(lines: list[str]) -> Answer:
-    """What the program answers with these lines, the first of which is owed."""
+    """What the program answers with these lines, the first of which is owed. Details may follow that alone."""
     if lines == ["same"]:
         return Answer(0, "same\n")
     return Answer(1, err="".join(f"pcompact: {line}\n" for line in lines))

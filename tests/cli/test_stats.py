@@ -20,7 +20,7 @@ import time
 sys.dont_write_bytecode = True
 sys.path.insert(0, str(pathlib.Path(__file__).resolve().parents[2]))
 from tests.support.cases import BASE, COLLECTED, COMPACTED, ONE_WORKER, WORDS, image, rooted
-from tests.support.program import PRELOAD, Answer, Tried, built
+from tests.support.program import PRELOAD, Answer, Tried, built, without_details
 
 COLLECT = ["read", "check", "prepare", "fills", "clean-up", "write"]
 RECORD = [*COLLECT, "schedule"]
@@ -261,7 +261,7 @@ def try_failing(tried: Tried, source: str, name: str, fault: str) -> None:
     library = shim(tried, source)
     for words, phases, out, made in COMMANDS:
         for number, done in each(tried, words, list(made), library, name):
-            is_fault = done.returncode == 1 and done.stdout == "" and done.stderr == fault
+            is_fault = done.returncode == 1 and done.stdout == "" and without_details(done.stderr) == fault
             # The line is on standard error where it can't be found out whether a file is standard output.
             lines = done.stderr if done.stdout else done.stderr.removeprefix(out)
             is_right = (done.returncode == 0 and done.stdout + done.stderr == out + lines

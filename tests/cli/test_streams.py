@@ -130,15 +130,15 @@ def try_objects_beside(tried: Tried) -> None:
 
 
 def try_terminal(tried: Tried) -> None:
-    """Details come by themselves on a terminal alone; the option decides where it has a value."""
+    """Details come by themselves, on a terminal or not; the option decides where it has a value."""
     first = "pcompact: fault 13 input or output\n"
     more = first + "pcompact: file IMAGE nothing\npcompact: call open\npcompact: reason no such file or folder\n"
     for option, wanted in (("", more), ("--verbose", more), ("--verbose=auto", more), ("--verbose=never", first)):
         if (found := on_terminal(tried, f"summary nothing {option}")) != (1, wanted):
             tried.is_wrong(f"summary nothing {option}, on a terminal: {found}")
-    for option, wanted in (("", first), ("--verbose=auto", first), ("--verbose=never", first), ("--verbose=always", more)):
-        tried.run(f"summary nothing {option}", Answer(1, err=wanted))
-    tried.run("summary -- --verbose=always", Answer(1, err=first))
+        tried.run(f"summary nothing {option}", Answer(1, err=wanted, is_whole=True))
+    tried.run("summary nothing --verbose=always", Answer(1, err=more))
+    tried.run("summary -- --verbose=never", Answer(1, err=more.replace("nothing", "--verbose=never")))
 
 
 def try_heading(tried: Tried) -> None:

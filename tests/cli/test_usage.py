@@ -70,7 +70,7 @@ Options:
       --region-log <k>  Read IMAGE as if its regions had 2^k words, k from 3 to 20
       --allowance <m>   Read IMAGE as if its dense prefix might keep m dead words
       --json            Print a JSON object
-      --verbose         Print more details about errors
+      --verbose         Print details of errors (default; --verbose=never: none)
   -h, --help            Print help
 
 Example:
@@ -94,7 +94,7 @@ Options:
       --json            Print a JSON object
       --stats           Print timings and peak memory to stderr
       --progress        Show progress even if standard error is no terminal (or --progress=WHEN: auto, always, never)
-      --verbose         Print more details about errors
+      --verbose         Print details of errors (default; --verbose=never: none)
   -h, --help            Print help
 
 Example:
@@ -119,7 +119,7 @@ Options:
       --atomic          Replace files only once the command has succeeded
       --stats           Print timings and peak memory to stderr
       --progress        Show progress even if standard error is no terminal (or --progress=WHEN: auto, always, never)
-      --verbose         Print more details about errors
+      --verbose         Print details of errors (default; --verbose=never: none)
   -h, --help            Print help
 
 Example:
@@ -139,7 +139,7 @@ Options:
       --region-log <k>  Read IMAGE as if its regions had 2^k words, k from 3 to 20
       --allowance <m>   Read IMAGE as if its dense prefix might keep m dead words
       --progress        Show progress even if standard error is no terminal (or --progress=WHEN: auto, always, never)
-      --verbose         Print more details about errors
+      --verbose         Print details of errors (default; --verbose=never: none)
   -h, --help            Print help
 
 Example:
@@ -158,7 +158,7 @@ Options:
       --region-log <k>  Read IMAGE as if its regions had 2^k words, k from 3 to 20
       --allowance <m>   Read IMAGE as if its dense prefix might keep m dead words
       --json            Print a JSON object
-      --verbose         Print more details about errors
+      --verbose         Print details of errors (default; --verbose=never: none)
   -h, --help            Print help
 
 Example:
@@ -174,7 +174,7 @@ Arguments:
   <IMAGE>  A heap image
 
 Options:
-      --verbose  Print more details about errors
+      --verbose  Print details of errors (default; --verbose=never: none)
   -h, --help     Print help
 
 Example:
@@ -192,7 +192,7 @@ Arguments:
 
 Options:
       --atomic   Replace files only once the command has succeeded
-      --verbose  Print more details about errors
+      --verbose  Print details of errors (default; --verbose=never: none)
   -h, --help     Print help
 
 Example:
@@ -218,7 +218,7 @@ Options:
       --color           Use colours even if standard output is no terminal (or --color=WHEN: auto, always, never)
       --no-color        Never use colours
       --atomic          Replace files only once the command has succeeded
-      --verbose         Print more details about errors
+      --verbose         Print details of errors (default; --verbose=never: none)
   -h, --help            Print help
 
 Example:
@@ -244,7 +244,7 @@ Options:
       --color           Use colours even if standard output is no terminal (or --color=WHEN: auto, always, never)
       --no-color        Never use colours
       --atomic          Replace files only once the command has succeeded
-      --verbose         Print more details about errors
+      --verbose         Print details of errors (default; --verbose=never: none)
   -h, --help            Print help
 
 Example:
@@ -269,7 +269,7 @@ Options:
       --json            Print a JSON object
       --stats           Print timings and peak memory to stderr
       --progress        Show progress even if standard error is no terminal (or --progress=WHEN: auto, always, never)
-      --verbose         Print more details about errors
+      --verbose         Print details of errors (default; --verbose=never: none)
   -h, --help            Print help
 
 Example:
@@ -289,7 +289,7 @@ Options:
       --to <v>    Version of the upgraded image, from 2 to 3 (default 2)
       --progress  Show progress even if standard error is no terminal (or --progress=WHEN: auto, always, never)
       --atomic    Replace files only once the command has succeeded
-      --verbose   Print more details about errors
+      --verbose   Print details of errors (default; --verbose=never: none)
   -h, --help      Print help
 
 Example:
@@ -316,7 +316,7 @@ Options:
       --stats           Print timings and peak memory to stderr
       --progress        Show progress even if standard error is no terminal (or --progress=WHEN: auto, always, never)
       --atomic          Replace files only once the command has succeeded
-      --verbose         Print more details about errors
+      --verbose         Print details of errors (default; --verbose=never: none)
   -h, --help            Print help
 
 Example:
@@ -342,7 +342,7 @@ Options:
       --allowance <m>   Number of dead words that the dense prefix may keep (default 0)
       --progress        Show progress even if standard error is no terminal (or --progress=WHEN: auto, always, never)
       --atomic          Replace files only once the command has succeeded
-      --verbose         Print more details about errors
+      --verbose         Print details of errors (default; --verbose=never: none)
   -h, --help            Print help
 
 Example:

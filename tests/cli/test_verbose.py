@@ -1,11 +1,12 @@
 #!/usr/bin/env python3
-"""Runs the built program with --verbose where something goes wrong, and compares all of standard error: the line that
-is owed, and the lines that say more. Each form of such a line in docs/COMMANDS.md stands in a case.
+"""Runs the built program where something goes wrong, and compares all of standard error: the line that is owed, and
+the lines that say more. Each form of such a line in docs/COMMANDS.md stands in a case.
 
 In the end each allocation of some runs is refused in turn: the line that is owed must come, with its status.
 
 usage: tests/cli/test_verbose.py [PROGRAM]      (needs a C compiler)
 """
+import dataclasses
 import errno
 import os
 import pathlib
@@ -27,18 +28,19 @@ ROOTED, LARGE = b"PCHEAP02", b"PCHEAP03"
 
 def told(owed: str, *more: str, status: int = 1, made: dict[str, bytes | None] | None = None) -> Answer:
     """The line that is owed, and the lines that say more."""
-    return Answer(status, err="".join(f"pcompact: {line}\n" for line in (owed, *more)), made=made or {})
+    return Answer(status, err="".join(f"pcompact: {line}\n" for line in (owed, *more)), made=made or {}, is_whole=True)
 
 
 def io(file: str, call: str, reason: str) -> Answer:
     return told("fault 13 input or output", f"file {file}", f"call {call}", f"reason {reason}")
 
 
-def try_both(tried: Tried, words: str, answer: Answer) -> None:
-    """With --verbose all lines must come, and without it the first one alone."""
+def try_each(tried: Tried, words: str, answer: Answer) -> None:
+    """All lines must come with --verbose and without it, and with --verbose=never the first one alone."""
+    tried.run(words, answer)
     tried.run(f"{words} --verbose", answer)
     first = answer.err.splitlines(keepends=True)[0]
-    tried.run(words, Answer(answer.status, err=first, made=answer.made))
+    tried.run(f"{words} --verbose=never", dataclasses.replace(answer, err=first))
 
 
 # The region log, the count, the number of words, and the first condition of fault 4 that holds.
@@ -67,19 +69,19 @@ def try_lengths(tried: Tried) -> None:
     """Each cause of fault 4, in each version and of each command."""
     for log, count, words, cause in LARGE_LENGTHS:
         tried.write("image", head(log, count, words, LARGE))
-        try_both(tried, "summary image", told("fault 4 length", "file IMAGE image", f"reason {cause}"))
+        try_each(tried, "summary image", told("fault 4 length", "file IMAGE image", f"reason {cause}"))
     for log, count, words, cause in LENGTHS:
         for text in (head(log, count, words), head(log, count, words, ROOTED), head(log, count, words) + b"\0" * 300):
             tried.write("image", text)
-            try_both(tried, "summary image", told("fault 4 length", "file IMAGE image", f"reason {cause}"))
+            try_each(tried, "summary image", told("fault 4 length", "file IMAGE image", f"reason {cause}"))
     cause = f"reason {LENGTHS[-1][3]}"
     of_image = told("fault 4 length", "file IMAGE image", cause)
     tried.write("schedule", ONE_WORKER)
     for words in ("collect image out --workers 1", "record image out made --workers 1", "replay image schedule",
                   "upgrade image out", "collect image out --workers 1 --atomic"):
-        try_both(tried, words, of_image)
-    try_both(tried, "verify image base", told("fault 4 length", "file BEFORE image", cause))
-    try_both(tried, "verify base image", told("fault 4 length", "file AFTER image", cause))
+        try_each(tried, words, of_image)
+    try_each(tried, "verify image base", told("fault 4 length", "file BEFORE image", cause))
+    try_each(tried, "verify base image", told("fault 4 length", "file AFTER image", cause))
 
 
 def try_images(tried: Tried) -> None:
@@ -94,7 +96,7 @@ def try_images(tried: Tried) -> None:
         hint = [] if text else ["hint it is empty"]
         tried.write("image", text)
         tried.write("of two", text)
-        try_both(tried, "summary image", told(f"fault {owed}", "file IMAGE image", *hint))
+        try_each(tried, "summary image", told(f"fault {owed}", "file IMAGE image", *hint))
         tried.run(["verify", "of two", "base", "--verbose"], told(f"fault {owed}", "file BEFORE of two", *hint))
         tried.run(["verify", "base", "of two", "--verbose"], told(f"fault {owed}", "file AFTER of two", *hint))
         # The first of two faulty images is reported.
@@ -108,13 +110,13 @@ def try_hints(tried: Tried) -> None:
                           (text, "it is a heap text, pcompact assemble makes an image of it"),
                           (packed, "it is packed by gzip, gunzip unpacks it"), (schedule, "it is a schedule")):
         tried.write("image", content)
-        try_both(tried, "summary image", told("fault 2 magic", "file IMAGE image", f"hint {hint}"))
-    try_both(tried, "replay base base", told("same file", "file IMAGE base", "file SCHEDULE base", status=2))
+        try_each(tried, "summary image", told("fault 2 magic", "file IMAGE image", f"hint {hint}"))
+    try_each(tried, "replay base base", told("same file", "file IMAGE base", "file SCHEDULE base", status=2))
     tried.write("image", BASE)
-    try_both(tried, "replay base image", told("fault 14 schedule line 1", "file SCHEDULE image",
+    try_each(tried, "replay base image", told("fault 14 schedule line 1", "file SCHEDULE image",
                                               "reason the line is malformed", "hint it is a heap image"))
     tried.write("image", packed)
-    try_both(tried, "import image out", told(NAME, "file DUMP image", "hint it is packed by gzip, gunzip unpacks it"))
+    try_each(tried, "import image out", told(NAME, "file DUMP image", "hint it is packed by gzip, gunzip unpacks it"))
 
 
 def try_missing(tried: Tried) -> None:
@@ -123,21 +125,21 @@ def try_missing(tried: Tried) -> None:
     tried.write("schedule", ONE_WORKER)
     missing = "no such file or folder"
     for file, call, reason in (("nothing", "open", missing), ("nothing/image", "open", missing),
-                               ("folder", "read", "a folder"), ("/proc/self/mem", "read", "other, error 5 of the system"),
-                               ("base/image", "open", "other, error 20 of the system")):
+                               ("folder", "read", "a folder"), ("/proc/self/mem", "read", "an error of the device"),
+                               ("base/image", "open", "a file where a folder is wanted")):
         for words in (f"summary {file}", f"replay {file} schedule"):
-            try_both(tried, words, io(f"IMAGE {file}", call, reason))
-        try_both(tried, f"replay base {file}", io(f"SCHEDULE {file}", call, reason))
-        try_both(tried, f"verify {file} base", io(f"BEFORE {file}", call, reason))
-        try_both(tried, f"verify base {file}", io(f"AFTER {file}", call, reason))
+            try_each(tried, words, io(f"IMAGE {file}", call, reason))
+        try_each(tried, f"replay base {file}", io(f"SCHEDULE {file}", call, reason))
+        try_each(tried, f"verify {file} base", io(f"BEFORE {file}", call, reason))
+        try_each(tried, f"verify base {file}", io(f"AFTER {file}", call, reason))
     for words in ("collect nothing out --workers 1", "record nothing out made --workers 1", "upgrade nothing out"):
-        try_both(tried, words, io("IMAGE nothing", "open", missing))
-        try_both(tried, f"{words} --atomic", io("IMAGE nothing", "open", missing))
+        try_each(tried, words, io("IMAGE nothing", "open", missing))
+        try_each(tried, f"{words} --atomic", io("IMAGE nothing", "open", missing))
     for file, reason in (("folder", "a folder"), ("nothing/out", missing)):
         for words in (f"collect base {file} --workers 1", f"record base {file} made --workers 1", f"upgrade base {file}"):
-            try_both(tried, words, io(f"OUT {file}", "open", reason))
-        try_both(tried, f"record base out {file} --workers 1", io(f"SCHEDULE {file}", "open", reason))
-    try_both(tried, "collect base nothing/out --workers 1 --atomic", io("OUT nothing/out", "make", missing))
+            try_each(tried, words, io(f"OUT {file}", "open", reason))
+        try_each(tried, f"record base out {file} --workers 1", io(f"SCHEDULE {file}", "open", reason))
+    try_each(tried, "collect base nothing/out --workers 1 --atomic", io("OUT nothing/out", "make", missing))
 
 
 def try_not_permitted(tried: Tried) -> None:
@@ -158,8 +160,8 @@ def try_full(tried: Tried) -> None:
     """Devices without space, standard output among them."""
     no_space = ("write", "no space")
     for words in ("collect base /dev/full --workers 2", "record base /dev/full made --workers 1", "upgrade base /dev/full"):
-        try_both(tried, words, io("OUT /dev/full", *no_space))
-    try_both(tried, "record base out /dev/full --workers 1", io("SCHEDULE /dev/full", *no_space))
+        try_each(tried, words, io("OUT /dev/full", *no_space))
+    try_each(tried, "record base out /dev/full --workers 1", io("SCHEDULE /dev/full", *no_space))
     output = told("fault 13 input or output", "standard output", "call write", "reason no space")
     with open("/dev/full", "wb") as full:
         for words in ("summary base", "collect base out --workers 2 --atomic", "verify base compacted"):
@@ -170,7 +172,7 @@ def try_workers(tried: Tried) -> None:
     for asked in (0, 65, 4_294_967_295):
         answer = told("fault 12 workers", f"reason {asked} is not from 1 to 64")
         for words in ("collect base out", "record base out made"):
-            try_both(tried, f"{words} --workers {asked}", answer)
+            try_each(tried, f"{words} --workers {asked}", answer)
 
 
 def try_schedules(tried: Tried) -> None:
@@ -199,13 +201,13 @@ def try_schedules(tried: Tried) -> None:
         tried.write("schedule", text)
         owed = f"fault 14 schedule line {number}"
         hint = [] if text else ["hint it is empty"]
-        try_both(tried, "replay base schedule", told(owed, "file SCHEDULE schedule", *more, *hint))
+        try_each(tried, "replay base schedule", told(owed, "file SCHEDULE schedule", *more, *hint))
 
 
 def try_verdicts(tried: Tried) -> None:
     for text, owed in ((BASE, "word 1"), (image(MOVED, MOVED_LIVE, allowance=2), "shape")):
         tried.write("after", text)
-        try_both(tried, "verify base after", told(f"differs {owed}", "file AFTER after"))
+        try_each(tried, "verify base after", told(f"differs {owed}", "file AFTER after"))
 
 
 def try_refused_files(tried: Tried) -> None:
@@ -221,10 +223,10 @@ def try_refused_files(tried: Tried) -> None:
              ("record base link schedule --workers 1", "IMAGE base", "OUT link"),
              ("replay base link", "IMAGE base", "SCHEDULE link")]
     for words, one, other in pairs:
-        try_both(tried, words, told("same file", f"file {one}", f"file {other}", status=2))
+        try_each(tried, words, told("same file", f"file {one}", f"file {other}", status=2))
     for words in ("collect base folder --workers 1 --atomic", "upgrade base folder --atomic"):
-        try_both(tried, words, told("not a regular file", "file OUT folder", status=2))
-    try_both(tried, "record base out folder --workers 1 --atomic",
+        try_each(tried, words, told("not a regular file", "file OUT folder", status=2))
+    try_each(tried, "record base out folder --workers 1 --atomic",
              told("not a regular file", "file SCHEDULE folder", status=2))
     if tried.read("base") != BASE:
         tried.is_wrong("an image that was named twice is changed")
@@ -235,39 +237,39 @@ def try_dumps(tried: Tried) -> None:
     tried.write("dump", DUMP)
     tried.write("cut", DUMP[:-1])
     for words, said in (("import cut out", CUT), ("import cut out --atomic --live-only", CUT)):
-        try_both(tried, words, told(said, f"file DUMP {words.split()[1]}"))
-    try_both(tried, "import base out", told(NAME, "file DUMP base", "hint it is a heap image"))
+        try_each(tried, words, told(said, f"file DUMP {words.split()[1]}"))
+    try_each(tried, "import base out", told(NAME, "file DUMP base", "hint it is a heap image"))
     to = dump_writer.Writer()
     array = to.primitives(8, 11, [0] * 200_000) + to.references(4_000_000, [])
     many = "the heap has 200002 words, and 131072 are the most"
     for root, live, hint in ((4_000_000, 1, "it has 1.5 MiB, 1.0 MiB are the most, and with --live-only it has 0.0 MiB"),
                              (8, 200_001, "its live objects have 1.5 MiB, and 1.0 MiB are the most")):
         tried.write("large", dump_writer.Writer().record(0x0C, array + to.root(0x05, root)).text())
-        try_both(tried, "import large out --region-log 3 --version 2",
+        try_each(tried, "import large out --region-log 3 --version 2",
                  told(f"{many}; with --live-only it has {live}", "file DUMP large", f"hint {hint}"))
     missing = "no such file or folder"
     for words in ("import nothing out", "import nothing out --atomic"):
-        try_both(tried, words, io("DUMP nothing", "open", missing))
-    try_both(tried, "import /proc/self/mem out", io("DUMP /proc/self/mem", "read", "other, error 5 of the system"))
-    try_both(tried, "import dump folder", io("IMAGE folder", "open", "a folder"))
-    try_both(tried, "import dump nothing/out", io("IMAGE nothing/out", "open", missing))
-    try_both(tried, "import dump nothing/out --atomic", io("IMAGE nothing/out", "make", missing))
-    try_both(tried, "import dump /dev/full", io("IMAGE /dev/full", "write", "no space"))
-    try_both(tried, "import dump ./dump", told("same file", "file DUMP dump", "file IMAGE ./dump", status=2))
-    try_both(tried, "import folder out", told("not a regular file", "file DUMP folder", status=2))
-    try_both(tried, "import dump folder --atomic", told("not a regular file", "file IMAGE folder", status=2))
+        try_each(tried, words, io("DUMP nothing", "open", missing))
+    try_each(tried, "import /proc/self/mem out", io("DUMP /proc/self/mem", "read", "an error of the device"))
+    try_each(tried, "import dump folder", io("IMAGE folder", "open", "a folder"))
+    try_each(tried, "import dump nothing/out", io("IMAGE nothing/out", "open", missing))
+    try_each(tried, "import dump nothing/out --atomic", io("IMAGE nothing/out", "make", missing))
+    try_each(tried, "import dump /dev/full", io("IMAGE /dev/full", "write", "no space"))
+    try_each(tried, "import dump ./dump", told("same file", "file DUMP dump", "file IMAGE ./dump", status=2))
+    try_each(tried, "import folder out", told("not a regular file", "file DUMP folder", status=2))
+    try_each(tried, "import dump folder --atomic", told("not a regular file", "file IMAGE folder", status=2))
 
 
 def try_generated(tried: Tried) -> None:
     """What `generate` says of the file for its image. Of a wish that no image has there is no more to tell."""
     wish = "--words 64 --live 50 --region-log 3 --seed 1"
     missing = "no such file or folder"
-    try_both(tried, f"generate folder {wish}", io("IMAGE folder", "open", "a folder"))
-    try_both(tried, f"generate nothing/out {wish}", io("IMAGE nothing/out", "open", missing))
-    try_both(tried, f"generate nothing/out {wish} --atomic", io("IMAGE nothing/out", "make", missing))
-    try_both(tried, f"generate /dev/full {wish}", io("IMAGE /dev/full", "write", "no space"))
-    try_both(tried, f"generate folder {wish} --atomic", told("not a regular file", "file IMAGE folder", status=2))
-    try_both(tried, f"generate out {wish.replace('64', '65')}",
+    try_each(tried, f"generate folder {wish}", io("IMAGE folder", "open", "a folder"))
+    try_each(tried, f"generate nothing/out {wish}", io("IMAGE nothing/out", "open", missing))
+    try_each(tried, f"generate nothing/out {wish} --atomic", io("IMAGE nothing/out", "make", missing))
+    try_each(tried, f"generate /dev/full {wish}", io("IMAGE /dev/full", "write", "no space"))
+    try_each(tried, f"generate folder {wish} --atomic", told("not a regular file", "file IMAGE folder", status=2))
+    try_each(tried, f"generate out {wish.replace('64', '65')}",
              told("65 words are not a multiple of the 8 words of a region", status=2))
 
 
@@ -295,7 +297,7 @@ def failing(tried: Tried, call: str, words: str, error: int = errno.EIO) -> str:
 def try_calls(tried: Tried) -> None:
     """Each call on a file that is written failing, and on one of which the system doesn't tell. With --atomic what stood
     there stands then. No new file is left."""
-    failed = "other, error 5 of the system"
+    failed = "an error of the device"
     calls = {"sync": ("sync", failed), "mode": ("access", failed), "rename": ("rename", failed), "empty": ("empty", failed),
              "none": ("write", "no byte was taken")}
     prepare_writing(tried)
@@ -324,6 +326,29 @@ def try_no_space(tried: Tried) -> None:
                 said = failing(tried, call, words + option, error)
                 if said != io(f"{role} kept", call, "no space").err:
                     tried.is_wrong(f"pcompact {words}{option}, {call} fails by {errno.errorcode[error]}: {said!r}")
+
+
+# Errors of the system, and the words for them.
+ERRORS = {errno.ENXIO: "no such device", errno.EBADF: "not open", errno.ENOMEM: "the system has no memory",
+          errno.EBUSY: "the file is in use", errno.EXDEV: "another file system", errno.ENODEV: "no such device",
+          errno.EINVAL: "not possible with such a file", errno.ENFILE: "too many files are open in the system",
+          errno.EMFILE: "too many files are open", errno.ETXTBSY: "a program that runs", errno.EFBIG: "file too large",
+          errno.ESPIPE: "not possible with a pipe", errno.EROFS: "a read-only file system",
+          errno.ENAMETOOLONG: "the name is too long", errno.ENOLCK: "no more locks", errno.ENOSYS: "not supported by the system",
+          errno.ELOOP: "too many links", errno.EOVERFLOW: "file too large for the system",
+          errno.ETIMEDOUT: "no answer in time", errno.EOPNOTSUPP: "not supported by the system",
+          errno.ESTALE: "the server has lost the file", errno.EPROTO: f"other, error {errno.EPROTO} of the system"}
+
+
+def try_errors(tried: Tried) -> None:
+    """Each error that has words, and one that has none."""
+    prepare_writing(tried)
+    for error, reason in ERRORS.items():
+        tried.count += 1
+        said = failing(tried, "sync", "upgrade base kept --atomic", error)
+        if said != io("OUT kept", "sync", reason).err:
+            tried.is_wrong(f"pcompact upgrade base kept --atomic, sync fails by {errno.errorcode[error]}: {said!r}")
+    tried.run(f"summary {'n' * 300}", io(f"IMAGE {'n' * 300}", "open", ERRORS[errno.ENAMETOOLONG]))
 
 
 def try_refused_memory(tried: Tried, words: str) -> None:
@@ -355,7 +380,7 @@ def main() -> int:
         tried.write("base", BASE)
         tried.write("compacted", COMPACTED)
         for group in (try_lengths, try_images, try_hints, try_missing, try_not_permitted, try_full, try_workers, try_schedules,
-                      try_verdicts, try_refused_files, try_dumps, try_generated, try_calls, try_no_space):
+                      try_verdicts, try_refused_files, try_dumps, try_generated, try_calls, try_no_space, try_errors):
             group(tried)
         tried.write("schedule", "schedule 1 1\n0 look 1 open2\n")
         for words in ("replay base schedule", "summary nothing", "verify base base", "import cut out"):

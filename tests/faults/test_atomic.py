@@ -28,7 +28,7 @@ from tests.models import dump as dump_model
 from tests.models import generated_heap as heap_model
 from tests.models import image as model
 from tests.support.cases import BASE, COLLECTED, COMPACTED, MOVED, ONE_WORKER, WORDS, image, rooted, upgraded, with_word
-from tests.support.program import PRELOAD, Answer, Tried, built, fault, launcher, usage
+from tests.support.program import PRELOAD, Answer, Tried, built, fault, launcher, owed, usage
 
 FULL = pathlib.Path("/dev/full")
 FAULT_13 = "13 input or output"
@@ -321,7 +321,7 @@ def each(folder: Folder, library: pathlib.Path, name: str, said: str, words: str
     for number in range(1, count + 1):
         folder.lay(**old)
         done, _ = preloaded(folder, library, words, f"{name}={number}")
-        answer = (done.returncode, done.stdout.decode(), done.stderr.decode())
+        answer = (done.returncode, done.stdout.decode(), owed(done.stderr).decode())
         # The line is on standard error where it can't be found out whether a file is standard output.
         elsewhere += answer == (0, "", line)
         if answer in ((0, line, ""), (0, "", line)):

@@ -20,7 +20,7 @@ sys.dont_write_bytecode = True
 sys.path.insert(0, str(pathlib.Path(__file__).resolve().parents[2]))
 from tests.cli.test_import import DUMP
 from tests.support.cases import BASE, COLLECTED, COMPACTED, ONE_WORKER, REPORT, try_groups
-from tests.support.program import Answer, Tried, fault
+from tests.support.program import Answer, Tried, fault, owed
 
 INPUT, OUTPUT, ERRORS = 0, 1, 2
 FAULT_13 = fault("13 input or output")
@@ -77,7 +77,7 @@ def called(tried: Tried, words: str, given: bytes, closed: tuple[int, ...]) -> D
     lines = lay(tried)["lines"]
     done = subprocess.run([tried.program, *words.split()], cwd=tried.folder, input=lines if given == LINES else given,
                           capture_output=True, timeout=60, preexec_fn=lambda: [os.close(number) for number in closed])
-    return Done(done.returncode, done.stdout, done.stderr, files_of(tried))
+    return Done(done.returncode, done.stdout, owed(done.stderr), files_of(tried))
 
 
 def wanted(right: Done, before: dict[str, bytes], reads: bool, closed: tuple[int, ...]) -> Done:
@@ -122,7 +122,7 @@ def try_named(tried: Tried) -> None:
         if (found := called(tried, words, b"", (closed,))).status != 1:
             tried.is_wrong(f"pcompact {words}, closed {closed}: {found.told()}")
     tried.run("summary - --verbose", Answer(1, err=f"{FAULT_13.err}pcompact: file IMAGE -\npcompact: call open\n"
-                                                  "pcompact: reason other, error 9 of the system\n"), preexec_fn=lambda: os.close(INPUT))
+                                                  "pcompact: reason not open\n"), preexec_fn=lambda: os.close(INPUT))
 
 
 WITHOUT_PROC = ["unshare", "-m", "sh", "-c", 'umount -l /proc && exec "$@"', "sh"]

@@ -1,6 +1,6 @@
 #!/bin/sh
 # Runs the built program on some command lines with each of its calls on files failing in turn, as
-# opens, reads and writes. It must answer status 1 and `pcompact: fault 13 input or output` alone, with
+# opens, reads and writes. It must answer status 1 and `pcompact: fault 13 input or output`, with details alone behind it, and with
 # a beginning of the right bytes in each file that the command makes; or all must be right, where it can do
 # without that call, as with the one that tells whether an image's file is a regular one. Where it can't be found out whether a file
 # is standard output, what is printed goes to standard error. Where what fails is a write to
@@ -62,8 +62,14 @@ are_beginnings() {
     done
 }
 
+# Whether the fault stands on standard error, and behind it nothing but details.
+says_fault() {
+    head -n 1 "$room/err" | cmp -s - "$room/fault" &&
+        ! sed 1d "$room/err" | grep -qvE '^pcompact: (file [A-Z]+ |standard output$|(call|reason) )'
+}
+
 is_fault() {
-    [ "$status" = 1 ] && [ ! -s "$room/out" ] && cmp -s "$room/err" "$room/fault" && are_beginnings
+    [ "$status" = 1 ] && [ ! -s "$room/out" ] && says_fault && are_beginnings
 }
 
 # Whether a command that writes to standard error wrote only a beginning there, and nothing else changed.

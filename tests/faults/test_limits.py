@@ -27,7 +27,7 @@ sys.dont_write_bytecode = True
 sys.path.insert(0, str(pathlib.Path(__file__).resolve().parents[2]))
 from tests.cli.test_import import DUMP
 from tests.support.cases import BASE, COMPACTED, ONE_WORKER
-from tests.support.program import SECONDS, Tried, built
+from tests.support.program import SECONDS, Tried, built, owed
 
 OLD = b"what stood there before" * 40
 KIB = 1024
@@ -216,7 +216,7 @@ def is_right(command: Command, right: Done, done: Done) -> bool:
 def is_fault(command: Command, right: Done, limit: Limit, done: Done) -> bool:
     """Whether a run ended with the fault that is owed, and left no more in a file than it may."""
     is_memory = limit.kind in ("memory", "stack")
-    if (done.status, done.out, done.err) != (1, b"", FAULT_11 if is_memory else FAULT_13):
+    if (done.status, done.out, owed(done.err)) != (1, b"", FAULT_11 if is_memory else FAULT_13):
         return False
     if command.is_atomic():
         return done.changed_nothing()

@@ -20,7 +20,7 @@ import threading
 # Finds the package `tests` from any folder, and writes nothing beside its modules.
 sys.dont_write_bytecode = True
 sys.path.insert(0, str(pathlib.Path(__file__).resolve().parents[2]))
-from tests.support.program import PRELOAD, built
+from tests.support.program import PRELOAD, built, owed
 
 WORKERS = [1, 2, 3, 4, 8, 64]
 # The region logs of each version.
@@ -48,7 +48,7 @@ def collect(program: str, image: str, out: pathlib.Path, workers: int, environme
     out.unlink(missing_ok=True)
     done = subprocess.run([program, "collect", image, str(out), "--workers", str(workers)], capture_output=True,
                           env=dict(os.environ, **(environment or {})), timeout=60)
-    return done.returncode, done.stdout, done.stderr, out.read_bytes() if out.exists() else None
+    return done.returncode, done.stdout, owed(done.stderr), out.read_bytes() if out.exists() else None
 
 
 def collect_from_pipe(program: str, text: bytes, room: pathlib.Path, workers: int) -> tuple:
@@ -102,7 +102,7 @@ class Called:
         environment = {**os.environ, **{name: str(it) for name, it in names.items()}, "LD_PRELOAD": str(self.library)}
         done = subprocess.run(["sh", "-c", 'exec "$0" "$@" 3>calls', self.program, *words.split()], cwd=self.room,
                               capture_output=True, env=environment, timeout=60)
-        return done.returncode, done.stdout, done.stderr, [file.read_bytes() if file.exists() else None for file in made]
+        return done.returncode, done.stdout, owed(done.stderr), [file.read_bytes() if file.exists() else None for file in made]
 
     def calls(self) -> int:
         """How many calls the last answer took."""

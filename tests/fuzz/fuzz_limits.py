@@ -8,7 +8,7 @@ import random
 import resource
 import subprocess
 
-from tests.support.program import Tried
+from tests.support.program import Tried, owed
 
 SECONDS = 10
 KIB, MIB = 1 << 10, 1 << 20
@@ -69,7 +69,7 @@ class Limited:
                               capture_output=True, timeout=SECONDS, preexec_fn=limits.set, restore_signals=False,
                               env={**os.environ, **environment})
         out = self.tried.folder / "out"
-        return done.returncode, done.stdout, done.stderr, out.read_bytes() if out.exists() else None
+        return done.returncode, done.stdout, owed(done.stderr), out.read_bytes() if out.exists() else None
 
     def try_call(self, chance: random.Random) -> str:
         """Runs one command without limits and with some, and reports the results."""

@@ -16,7 +16,7 @@ import time
 from collections.abc import Iterator
 
 from tests.support.measured import Taken, measured
-from tests.support.program import Tried, launcher
+from tests.support.program import Tried, launcher, owed
 
 MIB = 1 << 20
 # A call that takes longer hangs, at 4 GiB too.
@@ -143,7 +143,7 @@ class LargeCalls:
         _, err = running.communicate(timeout=SECONDS)
         is_old = out.stat().st_size == len(OLD) and out.read_bytes() == OLD
         is_right = not is_old and filecmp.cmp(out, self.here / call.right, shallow=False)
-        return End(running.returncode, err, "old" if is_old else "right" if is_right else "neither", len(list(out.parent.glob(NEW))))
+        return End(running.returncode, owed(err), "old" if is_old else "right" if is_right else "neither", len(list(out.parent.glob(NEW))))
 
     def limited(self, call: Call, kind: int, most: int) -> End:
         out = self.here / "out"

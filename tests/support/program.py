@@ -34,10 +34,11 @@ class Answer:
     status: int
     # Any text where it is None.
     out: str | None = ""
-    # All of it, or what all of it matches.
+    # All of it, or what all of it matches. Details may follow a line on an error, unless `is_whole`.
     err: str | re.Pattern = ""
     # Of each file that the program makes its bytes, or None where it must not be there.
     made: dict[str, bytes | None] = dataclasses.field(default_factory=dict)
+    is_whole: bool = False
 
 
 def fault(text: str, made: dict[str, bytes | None] | None = None) -> Answer:
@@ -121,12 +122,29 @@ def states_of(process: int) -> str:
     return " ".join(stat.read_text().rpartition(")")[2].split()[0] for stat in stats)
 
 
+# A line that follows that of an error.
+DETAIL = re.compile(r"pcompact: (?:file [A-Z]+ .*|standard output|(?:call|reason|reply|hint) .+)\n")
+
+
+def without_details(err: str) -> str:
+    """The first line, where only details follow it."""
+    first, *more = err.splitlines(keepends=True) or [""]
+    return first if all(map(DETAIL.fullmatch, more)) else err
+
+
+def owed(err: bytes) -> bytes:
+    """What stands on standard error, without details."""
+    return without_details(err.decode(errors="surrogateescape")).encode(errors="surrogateescape")
+
+
 END_OF_USAGE = "\nFor more information, try '--help'.\n"
 
 
 def is_told(err: str, answer: Answer) -> bool:
     """Whether standard error has the text. A text of usage that is given without its end must begin so."""
     if isinstance(answer.err, re.Pattern):
-        return answer.err.fullmatch(err) is not None
+        return any(map(answer.err.fullmatch, {err, err if answer.is_whole else without_details(err)}))
+    if answer.status and answer.err.count("\n") == 1 and not answer.is_whole:
+        err = without_details(err)
     is_begun = answer.status == 2 and answer.err.startswith("error: ") and not answer.err.endswith(END_OF_USAGE)
     return err.startswith(answer.err) and err.endswith(END_OF_USAGE) if is_begun else err == answer.err

@@ -98,4 +98,7 @@ pub const PROGRESS: Argument = Argument::Flag(
 );
 
 /// The option `--verbose`.
-pub const VERBOSE: Argument = Argument::Flag("verbose", "Print more details about errors");
+pub const VERBOSE: Argument = Argument::Flag(
+    "verbose",
+    "Print details of errors (default; --verbose=never: none)",
+);

@@ -90,26 +90,6 @@ impl<'a> Request<'a> {
         }
     }
 
-    /// Whether to print more details about errors.
-    pub fn is_verbose(&self) -> bool {
-        match self {
-            Request::Board | Request::BoardSteps | Request::Show(_) => false,
-            Request::Summary(call) => call.verbose,
-            Request::Collect(call) => call.verbose,
-            Request::Verify(call) => call.verbose,
-            Request::Record(call) => call.verbose,
-            Request::Replay(call) => call.verbose,
-            Request::Upgrade(call) => call.verbose,
-            Request::Import(call) => call.verbose,
-            Request::Generate(call) => call.verbose,
-            Request::Order(call) => call.verbose,
-            Request::Text(call) => call.verbose,
-            Request::Assemble(call) => call.verbose,
-            Request::Map(call) => call.verbose,
-            Request::Timeline(call) => call.verbose,
-        }
-    }
-
     /// The request with colours as `--color` says by a value. A command without that option stays as it is.
     pub fn with_color(self, when: When) -> Request<'a>
         ensures { (name : List ℕ) → IsFor name self.entry → IsFor name result }

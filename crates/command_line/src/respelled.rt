@@ -6,10 +6,10 @@ ghost use Rattle.command_line.specs.Respelling.{has_value, is_on, mentions, othe
 
 use std::alloc::{AllocError, Global};
 
-/// When something is done that a terminal else decides: details of an error are printed, colours are used, or progress is shown.
+/// When something is done: details of an error are printed, colours are used, or progress is shown.
 #[derive(Clone, Copy, PartialEq, Eq)]
 pub enum When {
-    /// On a terminal.
+    /// As without the option.
     Auto,
     Always,
     Never,
@@ -28,10 +28,10 @@ impl When {
         }
     }
 
-    /// Whether it is done, on a terminal or not.
-    pub fn is_now(self, is_terminal: bool) -> bool {
+    /// Whether it is done, where this says whether it is without the option.
+    pub fn is_now(self, by_default: bool) -> bool {
         match self {
-            When::Auto => is_terminal,
+            When::Auto => by_default,
             When::Always => true,
             When::Never => false,
         }

@@ -1,7 +1,7 @@
 //! What all commands of the program use: failures, files to read and lines.
 //!
 //! **Failures.** A [`Failure`] decides the exit status and the first line on standard error. [`Trouble`] adds the file, the
-//! [`Reason`] and a [`Hint`], which `--verbose` prints.
+//! [`Reason`] and a [`Hint`], which follow that line unless `--verbose=never` is given.
 //!
 //! **Files.** A [`FileWord`] is a file name from the command line, with its role. [`Watched`] is an open file that keeps its
 //! first bytes and the last call on it that failed; it can read an image with another head ([`reshape`]). `command_files` opens

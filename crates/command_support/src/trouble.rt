@@ -23,7 +23,7 @@ use std::alloc::AllocError;
 use std::io;
 use std::io::Write;
 
-/// A failure with the details that `--verbose` prints.
+/// A failure with the details that follow its line.
 #[derive(Drop)]
 pub struct Trouble {
     /// Decides the exit status and the first line on standard error.
@@ -181,8 +181,7 @@ impl Trouble {
         }
     }
 
-    /// Writes the lines of `--verbose`: the files, by their names among these, the reason and the hint, and those of
-    /// `--explain`.
+    /// Writes the details: the files, by their names among these, the reason and the hint, and the lines of `--explain`.
     pub fn print_details<B: Write>(&self, named: NamedFiles<'_>, err: &mut B) -> io::Result<()> {
         print_file(named, self.other, err)?;
         print_file(named, self.file, err)?;

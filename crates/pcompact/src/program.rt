@@ -37,8 +37,8 @@ const OBJECT_ROOM: usize = 512;
 ///
 /// `out` and `err` are standard output and standard error, and `screen` says what the first can show. What a command
 /// prints is written to `out` whole, once its work is done, and flushed; if that fails, the command fails with fault
-/// 13. Files written with `--atomic` are renamed into place after that. A failed write to `err` changes nothing. On a
-/// terminal or with `--verbose`, details follow the error line on `err`; with `--stats`, timings are printed there at
+/// 13. Files written with `--atomic` are renamed into place after that. A failed write to `err` changes nothing.
+/// Details follow the error line on `err`, except with `--verbose=never`; with `--stats`, timings are printed there at
 /// the end.
 ///
 /// `rt` opens files, allocates, starts threads, waits for them and reads the clock.
@@ -113,7 +113,7 @@ impl Manner {
     {
         Manner {
             screen,
-            details: request.is_verbose() || screen.shows_errors,
+            details: true,
             measured: have_word(words, "--stats") && request.asks_stats(),
             json: have_word(words, "--json") && request.asks_json(),
         }
@@ -256,7 +256,7 @@ where
                 .with_color(spelled.line.color)
                 .as_asked(spelled.words);
             let manner = Manner {
-                details: spelled.line.verbose.is_now(screen.shows_errors),
+                details: spelled.line.verbose.is_now(true),
                 ..Manner::of(spelled.words, &request, screen)
             };
             carry_out(rt, request, manner, out, err)

@@ -34,8 +34,6 @@ pub struct Assemble<'a> {
     pub image: &'a str,
     /// Whether files are replaced only once all is done.
     pub atomic: bool,
-    /// Whether to print more details about errors.
-    pub verbose: bool,
 }
 
 impl<'a> Assemble<'a> {
@@ -51,7 +49,6 @@ impl<'a> Assemble<'a> {
             text,
             image,
             atomic: matches.get_flag("atomic"),
-            verbose: matches.get_flag("verbose"),
         }))
     }
 }

@@ -51,8 +51,6 @@ pub struct Collect<'a> {
     pub json: bool,
     /// Whether to print timings and peak memory.
     pub stats: bool,
-    /// Whether to print more details about errors.
-    pub verbose: bool,
 }
 
 impl<'a> Collect<'a> {
@@ -76,7 +74,6 @@ impl<'a> Collect<'a> {
             atomic: matches.get_flag("atomic"),
             json: matches.get_flag("json"),
             stats: matches.get_flag("stats"),
-            verbose: matches.get_flag("verbose"),
         }))
     }
 }

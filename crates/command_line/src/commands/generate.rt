@@ -105,8 +105,6 @@ pub struct Generate<'a> {
     pub allowance: u64,
     /// Whether files are replaced only once all is done.
     pub atomic: bool,
-    /// Whether to print more details about errors.
-    pub verbose: bool,
 }
 
 impl<'a> Generate<'a> {
@@ -134,7 +132,6 @@ impl<'a> Generate<'a> {
             version: matches.get_one("version"),
             allowance: matches.get_one("allowance").unwrap_or(0),
             atomic: matches.get_flag("atomic"),
-            verbose: matches.get_flag("verbose"),
         }))
     }
 }

@@ -96,8 +96,6 @@ pub struct Import<'a> {
     pub stats: bool,
     /// Whether files are replaced only once all is done.
     pub atomic: bool,
-    /// Whether to print more details about errors.
-    pub verbose: bool,
 }
 
 impl<'a> Import<'a> {
@@ -121,7 +119,6 @@ impl<'a> Import<'a> {
             json: matches.get_flag("json"),
             stats: matches.get_flag("stats"),
             atomic: matches.get_flag("atomic"),
-            verbose: matches.get_flag("verbose"),
         }))
     }
 

@@ -65,8 +65,6 @@ pub struct Map<'a> {
     pub look: Look,
     /// Whether files are replaced only once all is done.
     pub atomic: bool,
-    /// Whether to print more details about errors.
-    pub verbose: bool,
 }
 
 /// How a picture is printed.
@@ -113,7 +111,6 @@ impl<'a> Map<'a> {
             svg: matches.get_str("svg"),
             look: Look::of(matches),
             atomic: matches.get_flag("atomic"),
-            verbose: matches.get_flag("verbose"),
         }))
     }
 }

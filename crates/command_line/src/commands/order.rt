@@ -36,8 +36,6 @@ pub struct Order<'a> {
     pub shape: Shape,
     /// Whether to print a JSON object.
     pub json: bool,
-    /// Whether to print more details about errors.
-    pub verbose: bool,
 }
 
 impl<'a> Order<'a> {
@@ -49,7 +47,6 @@ impl<'a> Order<'a> {
             image: matches.get_str("IMAGE")?,
             shape: Shape::of(matches),
             json: matches.get_flag("json"),
-            verbose: matches.get_flag("verbose"),
         }))
     }
 }

@@ -57,8 +57,6 @@ pub struct Record<'a> {
     pub atomic: bool,
     /// Whether to print timings and peak memory.
     pub stats: bool,
-    /// Whether to print more details about errors.
-    pub verbose: bool,
 }
 
 impl<'a> Record<'a> {
@@ -84,7 +82,6 @@ impl<'a> Record<'a> {
             shape: Shape::of(matches),
             atomic: matches.get_flag("atomic"),
             stats: matches.get_flag("stats"),
-            verbose: matches.get_flag("verbose"),
         }))
     }
 }

@@ -37,8 +37,6 @@ pub struct Replay<'a> {
     pub schedule: &'a str,
     /// What the image is read with in place of what is in its head.
     pub shape: Shape,
-    /// Whether to print more details about errors.
-    pub verbose: bool,
 }
 
 impl<'a> Replay<'a> {
@@ -54,7 +52,6 @@ impl<'a> Replay<'a> {
             image,
             schedule,
             shape: Shape::of(matches),
-            verbose: matches.get_flag("verbose"),
         }))
     }
 }

@@ -42,8 +42,6 @@ pub struct Summary<'a> {
     pub shape: Shape,
     /// Whether to print a JSON object.
     pub json: bool,
-    /// Whether to print more details about errors.
-    pub verbose: bool,
 }
 
 impl<'a> Summary<'a> {
@@ -56,7 +54,6 @@ impl<'a> Summary<'a> {
             heading: matches.get_flag("heading"),
             shape: Shape::of(matches),
             json: matches.get_flag("json"),
-            verbose: matches.get_flag("verbose"),
         }))
     }
 }

@@ -25,8 +25,6 @@ pub const DEFINITION: Definition = Definition {
 pub struct Text<'a> {
     /// The file with the image.
     pub image: &'a str,
-    /// Whether to print more details about errors.
-    pub verbose: bool,
 }
 
 impl<'a> Text<'a> {
@@ -36,7 +34,6 @@ impl<'a> Text<'a> {
     {
         Some(Request::Text(Text {
             image: matches.get_str("IMAGE")?,
-            verbose: matches.get_flag("verbose"),
         }))
     }
 }

@@ -72,8 +72,6 @@ pub struct Timeline<'a> {
     pub look: Look,
     /// Whether files are replaced only once all is done.
     pub atomic: bool,
-    /// Whether to print more details about errors.
-    pub verbose: bool,
 }
 
 impl<'a> Timeline<'a> {
@@ -94,7 +92,6 @@ impl<'a> Timeline<'a> {
             html: matches.get_str("html"),
             look: Look::of(matches),
             atomic: matches.get_flag("atomic"),
-            verbose: matches.get_flag("verbose"),
         }))
     }
 }

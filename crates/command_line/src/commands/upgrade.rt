@@ -50,8 +50,6 @@ pub struct Upgrade<'a> {
     pub to: u32,
     /// Whether files are replaced only once all is done.
     pub atomic: bool,
-    /// Whether to print more details about errors.
-    pub verbose: bool,
 }
 
 impl<'a> Upgrade<'a> {
@@ -68,7 +66,6 @@ impl<'a> Upgrade<'a> {
             out,
             to: matches.get_one("to").unwrap_or(USUAL_VERSION),
             atomic: matches.get_flag("atomic"),
-            verbose: matches.get_flag("verbose"),
         }))
     }
 }

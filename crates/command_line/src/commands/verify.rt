@@ -48,7 +48,7 @@ pub struct Verify<'a> {
     pub before: &'a str,
     /// The file with the image that should be its compaction.
     pub after: &'a str,
-    /// Whether to say which words differ. It implies `verbose`.
+    /// Whether to say which words differ.
     pub explain: bool,
     /// Whether words at or above the new top count as equal.
     pub ignore_free: bool,
@@ -58,8 +58,6 @@ pub struct Verify<'a> {
     pub json: bool,
     /// Whether to print timings and peak memory.
     pub stats: bool,
-    /// Whether to print more details about errors.
-    pub verbose: bool,
 }
 
 impl<'a> Verify<'a> {
@@ -67,7 +65,6 @@ impl<'a> Verify<'a> {
     pub(crate) fn request(matches: &ArgMatches<'a>) -> Option<Request<'a>>
         ensures { IfSome result (IsFor (codes "verify")) }
     {
-        let explain = matches.get_flag("explain");
         let required = (matches.get_str("BEFORE"), matches.get_str("AFTER"));
         let (Some(before), Some(after)) = required else {
             return None;
@@ -75,12 +72,11 @@ impl<'a> Verify<'a> {
         Some(Request::Verify(Verify {
             before,
             after,
-            explain,
+            explain: matches.get_flag("explain"),
             ignore_free: matches.get_flag("ignore-free"),
             shape: Shape::of(matches),
             json: matches.get_flag("json"),
             stats: matches.get_flag("stats"),
-            verbose: explain || matches.get_flag("verbose"),
         }))
     }
 }
