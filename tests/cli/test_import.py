@@ -4,10 +4,13 @@
 usage: tests/cli/test_import.py [PROGRAM]
 """
 import dataclasses
+import itertools
+import json
 import os
 import pathlib
 import re
 import struct
+import subprocess
 import sys
 
 # Finds the package `tests` from any folder, and writes nothing beside its modules.
@@ -150,6 +153,23 @@ def timings(data: bytes) -> re.Pattern:
                       + r"pcompact: threads 1\npcompact: peak memory \d+\.\d MiB\n")
 
 
+# The columns of a histogram in an object.
+COLUMNS = ("live_objects", "live_bytes", "dead_objects", "dead_bytes")
+
+
+def try_object(tried: Tried, words: str, line: str, histogram: str = "") -> None:
+    """With --json the line and the histogram are an object."""
+    figures = line.split()
+    wanted = {name.replace("-", "_"): int(number) for name, number in zip(figures[::2], figures[1::2], strict=True)}
+    rows = [row.split() for row in itertools.takewhile(lambda row: not row.startswith("total"), histogram.splitlines()[1:])]
+    if histogram:
+        wanted["classes"] = [{**dict(zip(COLUMNS, map(int, row[1:5]))), "class": row[5]} for row in rows]
+    done = subprocess.run([tried.program, *words.split(), "--json"], cwd=tried.folder, capture_output=True, text=True)
+    tried.count += 1
+    if done.returncode or done.stderr or done.stdout.count("\n") != 1 or json.loads(done.stdout) != wanted:
+        tried.is_wrong(f"pcompact {words} --json: {done}")
+
+
 def try_lists(tried: Tried) -> None:
     """The list of objects and the histogram of classes, of each kept dump and of a written one, as the model has them; from a pipe
     too."""
@@ -165,6 +185,9 @@ def try_lists(tried: Tried) -> None:
                           Answer(0, line + lists.histogram, made=both), input=given)
                 tried.run(f"import {name} out{flag} --histogram 7", Answer(0, line + lists.histogram, made=image), input=given)
                 tried.run(f"import {name} out{flag} --stats", Answer(0, line, times, image), input=given)
+            try_object(tried, f"import dump out{flag}", line)
+            for more in ("", " --classes list", " --classes list --atomic"):
+                try_object(tried, f"import dump out{flag} --histogram 7{more}", line, lists.histogram)
                 tried.run(f"import {name} out{flag} --stats --histogram 7", Answer(0, line + lists.histogram, times, image), input=given)
     try_list_files(tried)
 
@@ -187,8 +210,6 @@ def try_list_files(tried: Tried) -> None:
     for image, other in ((".pcompact-0.tmp", "list"), ("out", ".pcompact-0.tmp"), (".pcompact-0.tmp", ".pcompact-1.tmp")):
         lists = dump_model.lists(DUMP).objects.encode()
         tried.run(f"import dump {image} --classes {other} --atomic", Answer(0, imported(DUMP).out, made={**imported(DUMP, image).made, other: lists}))
-    text = dataclasses.replace(imported(DUMP), out=None)
-    tried.run("import dump out --classes list --histogram 7 --json", text)
 
 
 def named_dump(id_size: int, names: list[bytes], count: int) -> bytes:
@@ -204,10 +225,10 @@ def named_dump(id_size: int, names: list[bytes], count: int) -> bytes:
 
 
 def try_long_names(tried: Tried) -> None:
-    """Names around the most bytes that are shown, alike up to there, of what takes four bytes each, and longer than any machine has:
+    """Names with quotes, around the most bytes that are shown, alike up to there, of what takes four bytes each, and longer than any machine has:
     the lists are the model's, and no longer than the multiple of the dump in docs/DUMPS.md."""
     most = dump_model.MOST_SHOWN
-    names = [b"a" * (most - 1), b"b" * most, b"c" * most + b"1", b"c" * most + b"2", b"\\" * (most + 1), b"/" * 65_536,
+    names = [b'-"\\"' * 100, b"a" * (most - 1), b"b" * most, b"c" * most + b"1", b"c" * most + b"2", b"\\" * (most + 1), b"/" * 65_536,
              b"[L" + b"x" * 200_000, b"java/lang/Class" + b"/" * most, b"\n" * most + b"live\n"]
     # The last row is the worst: the smallest objects, and each byte of the name printed as `\xNN`.
     for id_size, part, count in ((4, names, 3), (8, names, 3), (8, names[-3:-2], 2000), (4, [b"\0" * 501], 2000)):
@@ -216,6 +237,7 @@ def try_long_names(tried: Tried) -> None:
         lists, made = dump_model.lists(data, rows=9), dump_model.make(data)
         both = {"out": made.image, "list": lists.objects.encode()}
         tried.run("import dump out --classes list --histogram 9", Answer(0, f"{made.line}\n{lists.histogram}", made=both))
+        try_object(tried, "import dump out --histogram 9", made.line, lists.histogram)
         told = len(tried.read("list"))
         if told > 122 * len(data) or lists.objects.count("\n") != int(made.line.split()[3]):
             tried.is_wrong(f"a list of {told} bytes of a dump of {len(data)}, {lists.objects.count(chr(10))} rows: {made.line}")

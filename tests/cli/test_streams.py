@@ -16,8 +16,8 @@ sys.path.insert(0, str(pathlib.Path(__file__).resolve().parents[2]))
 from tests.cli.test_import import DUMP, NAME, imported
 from tests.models.heap_text import text_of
 from tests.models.image import decode
-from tests.support.cases import BASE, COLLECTED, COMPACTED, REPORT, image, rooted, try_groups
-from tests.support.program import Answer, Tried
+from tests.support.cases import BASE, COLLECTED, COMPACTED, MOVED, MOVED_LIVE, REPORT, WORDS, image, rooted, try_groups
+from tests.support.program import Answer, Tried, fault
 from tests.support.terminal import on_terminal
 
 # Of each line that may print an object the options that may have a value.
@@ -91,10 +91,9 @@ def try_dumps(tried: Tried) -> None:
 def try_objects(tried: Tried) -> None:
     """Each object has the names and numbers of the text."""
     tried.write("dump", DUMP)
-    tried.run("import dump out --histogram 3 --json", Answer(0, None, made=imported(DUMP).made))
     for words in ("order base", "collect base out --workers 2", "import dump out", "import dump out --classes list"):
         text = subprocess.run([tried.program, *words.split()], cwd=tried.folder, capture_output=True, text=True).stdout.split()
-        wanted = {name: json.loads(value) for name, value in zip(text[::2], text[1::2], strict=True)}
+        wanted = {name.replace("-", "_"): json.loads(value) for name, value in zip(text[::2], text[1::2], strict=True)}
         said = subprocess.run([tried.program, *words.split(), "--json"], cwd=tried.folder, capture_output=True, text=True)
         tried.count += 1
         if json.loads(said.stdout) != wanted or said.stderr or said.stdout.count("\n") != 1:
@@ -104,7 +103,18 @@ def try_objects(tried: Tried) -> None:
     tried.run("collect base out --workers 2 --json --progress=never", Answer(0, '{"prefix":0,"top":19,"filled":3}\n', made={"out": COMPACTED}))
     tried.run("collect base out --workers 2", Answer(0, COLLECTED))
     tried.run("verify base out --json", Answer(0, '{"same":true}\n'))
-    tried.run("verify base base --json", Answer(1, err="pcompact: differs word 1\n"))
+    tried.write("rooted", rooted(WORDS, [21]))
+    tried.run("collect rooted moved --workers 1", Answer(0, None))
+    for before, after, told in (("base", BASE, {"differs": "word", "at": 1}),
+                                ("base", image(MOVED, MOVED_LIVE, allowance=1), {"differs": "shape"}),
+                                ("rooted", tried.read("moved")[:-8] + (1).to_bytes(8, "little"), {"differs": "root", "at": 0})):
+        tried.write("after", after)
+        told = json.dumps({"same": False, **told}, separators=(",", ":"))
+        said = subprocess.run([tried.program, "verify", before, "after"], cwd=tried.folder, capture_output=True, text=True).stderr
+        tried.run(f"verify {before} after --json", Answer(1, f"{told}\n", said, is_whole=True))
+    tried.run("verify base nothing --json", fault("13 input or output"))
+    with open("/dev/full", "wb") as full:
+        tried.run("verify base base --json", fault("13 input or output"), stdout=full)
     lines = subprocess.run([tried.program, "summary", "base"], cwd=tried.folder, capture_output=True, text=True).stdout.splitlines()
     names = ["region", "partial", "live", "dest", "count", "source"]
     regions = [dict(zip(names, [None if word == "-" else int(word) for word in line.split()], strict=True)) for line in lines[1:]]

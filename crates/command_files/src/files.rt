@@ -195,6 +195,7 @@ where
         out: out.finish(host)?,
         schedule: None,
         stats: None,
+        room: None,
     })
 }
 

@@ -1,5 +1,5 @@
 //! What a command has done before it prints.
-ghost use Rattle.std.specs.Prelude.{◌≡◌, IfErr};
+ghost use Rattle.std.specs.Prelude.{◌≡◌, [], IfErr};
 ghost use Rattle.command_support.specs.Failure.{failed_device};
 
 use crate::replacement::Replacement;
@@ -18,6 +18,8 @@ pub struct WorkDone<'a> {
     pub schedule: Option<Replacement<'a>>,
     /// Timings, if the command measures them.
     pub stats: Option<Stats>,
+    /// Room for the text as an object, if that may be longer than a line.
+    pub room: Option<Vec<u8>>,
 }
 
 impl<'a> WorkDone<'a> {
@@ -30,6 +32,7 @@ impl<'a> WorkDone<'a> {
             out: None,
             schedule: None,
             stats: None,
+            room: None,
         }
     }
 
@@ -39,6 +42,24 @@ impl<'a> WorkDone<'a> {
     {
         self.stats = Some(stats);
         self
+    }
+
+    /// Adds room for the text as an object.
+    pub fn with_room(mut self, room: Option<Vec<u8>>) -> WorkDone<'a>
+        ensures { result.text ≡ self.entry.text }
+    {
+        self.room = room;
+        self
+    }
+
+    /// An empty vector for the text as an object: the room that was added, else this one.
+    pub fn take_room(&mut self, usual: Vec<u8>) -> Vec<u8>
+        ensures empty { result.items ≡ [] }
+        ensures text { self.new.text ≡ self.old.text }
+    {
+        let mut room = self.room.take().unwrap_or(usual);
+        room.clear();
+        room
     }
 
     /// Renames the new files to their places, OUT's first.

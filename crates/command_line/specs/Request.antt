@@ -1,4 +1,4 @@
-use Rattle.std.specs.Prelude.{◌≡◌, ⊤, ℕ, Bool, if◌then◌else◌, Option, None, codes, false, true}
+use Rattle.std.specs.Prelude.{◌≡◌, ⊤, ℕ, Bool, Option, None, codes, false, true}
 use Rattle.clap.specs.Walk.{Text as Name}
 use Rattle.command_line.specs.declared.commands.import.Import.{Import as ImportCall}
 use Rattle.command_line.specs.declared.request.Request.{Request}
@@ -47,9 +47,9 @@ abbrev pub asks_steps : Request → Bool
 asks_steps BoardSteps = true
 asks_steps request = false
 
--- the most classes of the histogram that a call of `import` prints, if it prints one: a JSON object has none
+-- the most classes of the histogram that a call of `import` prints, if it prints one
 abbrev pub rows_in : ImportCall → Option ℕ
-rows_in call = if call.json then None else call.histogram
+rows_in call = call.histogram
 
 abbrev pub rows_of : Request → Option ℕ
 rows_of (Import call) = rows_in call

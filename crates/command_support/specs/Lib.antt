@@ -1,3 +1,4 @@
+pub mod Classes
 pub mod Command
 pub mod Failure
 pub mod Heads

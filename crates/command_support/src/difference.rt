@@ -1,4 +1,8 @@
 //! How an image differs from the compaction of another.
+ghost use Rattle.std.specs.Prelude.{◌≡◌, IfOk, string_bytes};
+ghost use Rattle.command_support.specs.Json.{difference_object, placed};
+
+use std::alloc::{AllocError, Global};
 use std::fmt;
 
 /// The first difference between an image and the compaction of another.
@@ -12,6 +16,35 @@ pub enum Difference {
     Live(u64),
     /// The roots at this index.
     Root(u64),
+}
+
+impl Difference {
+    /// The JSON object that `verify` prints of it, on a line.
+    pub fn object(self, alloc: Global) -> Result<String, AllocError>
+        ensures { IfOk result (λ object. string_bytes object ≡ difference_object self) }
+    {
+        match self {
+            Difference::Shape => String::from_str(
+                alloc,
+                "{\"same\":false,\"differs\":\"shape\"}\n",
+            ),
+            Difference::Word(address) => placed(alloc, "word", address),
+            Difference::Live(index) => placed(alloc, "live", index),
+            Difference::Root(index) => placed(alloc, "root", index),
+        }
+    }
+}
+
+/// The object of a difference at this number.
+fn placed(alloc: Global, place: &str, number: u64) -> Result<String, AllocError>
+    ensures { IfOk result (λ object. string_bytes object ≡ placed place.now number) }
+{
+    let mut object = String::new(alloc);
+    writeln!(
+        object,
+        "{{\"same\":false,\"differs\":\"{place}\",\"at\":{number}}}"
+    )?;
+    Ok(object)
 }
 
 impl fmt::Display for Difference {

@@ -2,6 +2,9 @@
 ghost use Rattle.std.specs.Prelude.{◌≡◌, ◌++◌, OnOk};
 ghost use Rattle.command_support.specs.Json.{after, column_name, ending, first_of, json_of, next_column, piece, rest_of};
 
+mod class_place;
+
+use class_place::ClassPlace;
 use std::alloc::AllocError;
 
 /// A column of a summary.
@@ -57,6 +60,8 @@ enum Place {
     Before(Column),
     /// In a number of this column.
     In(Column),
+    /// In a histogram of classes, at this place.
+    Classes(ClassPlace),
 }
 
 impl Place {
@@ -68,6 +73,8 @@ impl Place {
             (Place::Name, b' ') => Place::Value,
             (Place::Value, b' ') => Place::Name,
             (Place::Name | Place::Value, b'\n') => Place::FirstLine,
+            (Place::FirstLine, b'n') => Place::Classes(ClassPlace::Head),
+            (Place::Classes(place), _) => Place::Classes(place.after(byte)),
             (Place::In(column), b' ') => Place::Before(column.next()),
             (Place::In(_), b'\n') => Place::NextLine,
             (Place::FirstLine | Place::NextLine, b' ') => self,
@@ -85,8 +92,11 @@ impl Place {
         match (self, byte) {
             (Place::Name, b' ') => json.extend_from_slice(b"\":"),
             (Place::Name, b'\n') => json.extend_from_slice(b"\":true"),
+            (Place::Name, b'-') => json.extend_from_slice(b"_"),
             (Place::Value, b' ') => json.extend_from_slice(b",\""),
             (Place::In(_), b'\n') => json.extend_from_slice(b"}"),
+            (Place::FirstLine, b'n') => json.extend_from_slice(b",\"classes\":["),
+            (Place::Classes(place), _) => place.push(byte, json),
             (Place::Value, b'\n') | (_, b' ') => Ok(()),
             (Place::FirstLine, _) => {
                 json.extend_from_slice(b",\"regions\":[")?;
@@ -125,7 +135,7 @@ fn push_first(column: Column, byte: u8, json: &mut Vec<u8>) -> Result<(), AllocE
 }
 
 /// Appends the object of what a command prints: a line of names and values, as `prefix 0 top 19`, and then perhaps the lines of
-/// a summary. A name without a value is true.
+/// a summary, or a histogram of classes. A name without a value is true; a hyphen in a name becomes `_`.
 pub fn push_json(text: &[u8], json: &mut Vec<u8>) -> Result<(), AllocError>
     ensures { OnOk result (json.new.items ≡ json.old.items ++ json_of text.now) }
 {

@@ -15,6 +15,7 @@
 //! - The exit status of a failure (`status_of` of `specs/Failure.antt`), and which failure comes of which error.
 //! - Adding a file, a reason or a hint leaves a failure the same.
 //! - Which hint comes of which first bytes (`hint_of` of `specs/Hints.antt`).
+//! - Which object comes of which text and of which difference (`specs/Json.antt`).
 //! - A system call that fails on a file is fault 13.
 //! - An image that is read with a shape has the head with its values, and the same body (`bytes_read` of `specs/Heads.antt`).
 //! - Nothing here reads out of bounds, overflows or stops the process, and every loop ends.

@@ -34,6 +34,9 @@ use std::time::Clock;
 /// Room for the line with the figures, with 20 digits for each number.
 const LINE_ROOM: usize = 240;
 
+/// By how much the object of the line is longer at most.
+const OBJECT_ROOM: usize = 512;
+
 /// Imports the dump in one file as the image of another, and returns what `import` prints.
 pub fn answer<'a, R: Files + AllocGlobal + Clock>(
     rt: &R,
@@ -59,7 +62,14 @@ where
         import_pipe(rt, dump, &mut late, wish, watch)
     };
     match imported {
-        Ok((made, stats)) => Ok(finished(rt, made, late, list)?.with_stats(stats)),
+        Ok((mut made, stats)) => {
+            let room = made.room.take();
+            Ok(
+                finished(rt, made, late, list)?
+                    .with_stats(stats)
+                    .with_room(room),
+            )
+        }
         Err(trouble) => Err(unfinished(rt, trouble, late, list)),
     }
 }
@@ -144,6 +154,8 @@ pub struct ImportWish {
     pub lists_objects: bool,
     /// The most classes of the histogram, if one is printed.
     pub rows: Option<u32>,
+    /// Whether the text is printed as an object.
+    pub json: bool,
 }
 
 impl ImportWish {
@@ -158,7 +170,8 @@ impl ImportWish {
                 version: requested_version(request.version),
             },
             lists_objects: request.classes.is_some(),
-            rows: request.rows(),
+            rows: request.histogram,
+            json: request.json,
         }
     }
 }
@@ -172,6 +185,8 @@ pub struct ImportMade {
     pub listed: Option<(ListedImport, String)>,
     /// How much of the image is live.
     pub share: LiveShare,
+    /// Room for the text as an object, if it is printed so and may be longer than a line.
+    pub room: Option<Vec<u8>>,
 }
 
 /// Makes an image of the dump that both devices give, and writes it. Returns the text for standard output and, if they are
@@ -207,11 +222,13 @@ pub fn import_into<R: Intake, O: Outlet>(
                 text,
                 listed: None,
                 share: live_share(&imported.image),
+                room: None,
             })
         }
         _ => {
             let import = import_listed(alloc, first, second, wish.options)?;
             let text = text_of(alloc, &import, wish.rows)?;
+            let object = object_room(alloc, wish.json, text.len())?;
             let room = list_room(alloc, &import.names)?;
             write_image_buffered(alloc, &import.imported.image, output)?;
             let share = live_share(&import.imported.image);
@@ -219,9 +236,20 @@ pub fn import_into<R: Intake, O: Outlet>(
                 text,
                 listed: Some((import, room)),
                 share,
+                room: object,
             })
         }
     }
+}
+
+/// Room for the object of a text of this length, if it is wanted. A row of a histogram has at least 64 bytes beside the name of
+/// its class, and its object at most 73 beside digits, and two for each byte of the name.
+fn object_room(alloc: Global, is_wanted: bool, len: usize) -> Result<Option<Vec<u8>>, AllocError> {
+    if !is_wanted {
+        return Ok(None);
+    }
+    let room = len.saturating_mul(2).saturating_add(OBJECT_ROOM);
+    Ok(Some(Vec::with_capacity(alloc, room)?))
 }
 
 /// The line with the figures of an import.

@@ -30,7 +30,7 @@ where
     R::File: FileExt + SystemFile + Sync,
     ensures prints { (name : List ℕ) → IsFor name request.entry
         → IfOk result (λ done. IsPrintedBy name done.text.items) }
-    // Without `--histogram`, or with `--json`, that is the line with the figures alone.
+    // Without `--histogram`, that is the line with the figures alone.
     ensures import { IsFor (codes "import") request.entry
         → IfOk result (λ done. IsImportText (rows_of request.entry) done.text.items) }
     // Without `--steps`, that is the report alone.

@@ -9,7 +9,9 @@ ghost use Rattle.command_line.specs.Respelling.{plain_line};
 ghost use Rattle.pcompact.specs.Commands.{IsPrintedBy};
 ghost use Rattle.command_line.specs.declared.unread.Unread.{Unread};
 ghost use Rattle.command_support.specs.Failure.{failed_device, out_of_memory, status_of};
-ghost use Rattle.command_support.specs.Json.{as_shown};
+ghost use Rattle.command_support.specs.Json.{as_shown, difference_object};
+ghost use Rattle.command_support.specs.declared.difference.Difference.{Difference};
+ghost use Rattle.command_support.specs.declared.failure.Failure.TheVariants.{Differs};
 
 use crate::commands;
 use crate::named_files::named_files;
@@ -150,7 +152,10 @@ where
     }
     let done = match answer(rt, manner, request) {
         Ok(done) => done,
-        Err(trouble) => return report(&trouble, named, err),
+        Err(trouble) => {
+            let trouble = with_object(rt.alloc(), manner.json, trouble, out);
+            return report(&trouble, named, err);
+        }
     };
     let stats = done.stats;
     if let Err(trouble) = finish(rt, done, out) {
@@ -162,8 +167,8 @@ where
     0
 }
 
-/// Runs a command and returns its text; prints nothing. The text is an object if the manner says so. Room for that of a line
-/// is allocated before the command writes a file.
+/// Runs a command and returns its text; prints nothing. The text is an object if the manner says so. Room for it is allocated
+/// before the command writes a file.
 fn answer<'a, R: Files + AllocGlobal + Threads + Wait + Clock + Sync>(
     rt: &R,
     manner: Manner,
@@ -183,8 +188,9 @@ where
     if !manner.json {
         return commands::answer(rt, manner.screen, request);
     }
-    let mut object = Vec::with_capacity(rt.alloc(), OBJECT_ROOM)?;
-    let done = commands::answer(rt, manner.screen, request)?;
+    let usual = Vec::with_capacity(rt.alloc(), OBJECT_ROOM)?;
+    let mut done = commands::answer(rt, manner.screen, request)?;
+    let mut object = done.take_room(usual);
     match push_json(done.text.as_slice(), &mut object) {
         Ok(()) => Ok(WorkDone {
             text: object,
@@ -194,6 +200,31 @@ where
             done.remove(rt);
             Err(Trouble::from(refused))
         }
+    }
+}
+
+/// Prints the object of a difference between images, if one is wanted. The trouble with that takes the place of the difference,
+/// and any other trouble stays as it is.
+fn with_object<A: Write>(alloc: Global, json: bool, trouble: Trouble, out: &mut A) -> Trouble
+    ensures object { IsTrue json → (difference : Difference) → trouble.failure ≡ Differs difference
+        → result.failure ≡ Differs difference
+        → Appends (A.contents out.old) (A.contents out.new) (difference_object difference) }
+    ensures usage { status_of result.failure ≡ 2 → out.new ≡ out.old }
+    ensures memory { trouble.failure ≡ out_of_memory → result.failure ≡ out_of_memory }
+{
+    let Failure::Differs(difference) = &trouble.failure else {
+        return trouble;
+    };
+    if !json {
+        return trouble;
+    }
+    let object = match difference.object(alloc) {
+        Ok(object) => object,
+        Err(refused) => return Trouble::from(refused),
+    };
+    match show(object.as_bytes(), out) {
+        Ok(()) => trouble,
+        Err(error) => unprinted(&error),
     }
 }
 

@@ -1,5 +1,5 @@
 //! The command `import`: its arguments, their help, and how they are parsed.
-ghost use Rattle.std.specs.Prelude.{◌≡◌, ◌≢◌, codes, None, IfSome, ◌∷◌, []};
+ghost use Rattle.std.specs.Prelude.{◌≢◌, codes, None, IfSome, ◌∷◌, []};
 ghost use Rattle.command_line.specs.CommandLine.{HaveBeginning, IsCallOf};
 ghost use Rattle.command_line.specs.Request.{IsFor, rows_in};
 
@@ -134,13 +134,6 @@ impl<'a> Import<'a> {
                 ..self
             }
         }
-    }
-
-    /// The most classes of the histogram that is printed, if one is. A JSON object has none.
-    pub fn rows(&self) -> Option<u32>
-        ensures { result ≡ rows_in self.now }
-    {
-        if self.json { None } else { self.histogram }
     }
 }
 

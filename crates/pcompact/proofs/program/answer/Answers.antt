@@ -16,7 +16,7 @@ returns-in-Ok-clause-prints g c = λ name call.
     let asked : c.args.manner.json ≡ true = not-false c.args.manner.json c.if-not-manner.false in
     let text : List ℕ = c.in_ok-done.done.text.items in
     let object : c.push_json.new.json.items ≡ json_of text =
-    c.in-Ok.ensures ∙ ap₂ (λ (begun shown : List ℕ). begun ++ json_of shown) c.in_ok-object.ensures.items c.as_slice.ensures.value in
+    c.in-Ok.ensures ∙ ap₂ (λ (begun shown : List ℕ). begun ++ json_of shown) c.take_room-object.ensures.empty (c.as_slice.ensures.value ∙ ap (λ t. t.items) c.take_room-object.ensures.text) in
     (text, c.in_ok-done.ensures.prints name call, object ∙ ap (λ json. as_shown json text) (sym asked))
 
 pub returns-then-not-manner-clause-import : goal.returns-then-not-manner-clause-import
@@ -31,7 +31,7 @@ returns-in-Ok-clause-import g c = λ call.
     let asked : c.args.manner.json ≡ true = not-false c.args.manner.json c.if-not-manner.false in
     let text : List ℕ = c.in_ok-done.done.text.items in
     let object : c.push_json.new.json.items ≡ json_of text =
-    c.in-Ok.ensures ∙ ap₂ (λ (begun shown : List ℕ). begun ++ json_of shown) c.in_ok-object.ensures.items c.as_slice.ensures.value in
+    c.in-Ok.ensures ∙ ap₂ (λ (begun shown : List ℕ). begun ++ json_of shown) c.take_room-object.ensures.empty (c.as_slice.ensures.value ∙ ap (λ t. t.items) c.take_room-object.ensures.text) in
     (text, c.in_ok-done.ensures.import call, object ∙ ap (λ json. as_shown json text) (sym asked))
 
 pub returns-then-not-manner-clause-report : goal.returns-then-not-manner-clause-report
@@ -46,5 +46,5 @@ returns-in-Ok-clause-report g c = λ call.
     let asked : c.args.manner.json ≡ true = not-false c.args.manner.json c.if-not-manner.false in
     let text : List ℕ = c.in_ok-done.done.text.items in
     let object : c.push_json.new.json.items ≡ json_of text =
-    c.in-Ok.ensures ∙ ap₂ (λ (begun shown : List ℕ). begun ++ json_of shown) c.in_ok-object.ensures.items c.as_slice.ensures.value in
+    c.in-Ok.ensures ∙ ap₂ (λ (begun shown : List ℕ). begun ++ json_of shown) c.take_room-object.ensures.empty (c.as_slice.ensures.value ∙ ap (λ t. t.items) c.take_room-object.ensures.text) in
     (text, c.in_ok-done.ensures.report call, object ∙ ap (λ json. as_shown json text) (sym asked))
