@@ -157,7 +157,7 @@ def chosen(helps: Helps) -> list[tuple[Help, Option]]:
 
 
 def cases(options: list[tuple[Help, Option]]) -> str:
-    return " | \\\n                ".join(f"'{it.name} {option.name}'" for it, option in options)
+    return " | \\\n                ".join(f"'{it.name} {word}'" for it, option in options for word in option.spellings)
 
 
 def numbers(option: Option) -> str:
@@ -167,11 +167,12 @@ def numbers(option: Option) -> str:
 
 def bash_value(it: Help, option: Option) -> list[str]:
     """The line that completes a value, where one can."""
+    spelled = " | ".join(f"'{it.name} {word}'" for word in option.spellings)
     if option.takes_file:
-        return [f"    '{it.name} {option.name}') _pcompact_files ;;"]
+        return [f"    {spelled}) _pcompact_files ;;"]
     if option.choices:
-        return [f"    '{it.name} {option.name}') _pcompact_words {' '.join(option.choices)} ;;"]
-    return [f"    '{it.name} {option.name}') _pcompact_words {numbers(option)} ;;"] if option.values else []
+        return [f"    {spelled}) _pcompact_words {' '.join(option.choices)} ;;"]
+    return [f"    {spelled}) _pcompact_words {numbers(option)} ;;"] if option.values else []
 
 
 def bash(helps: Helps) -> str:
@@ -195,15 +196,28 @@ def zsh_escaped(text: str, signs: str) -> str:
     return "".join(rf"\{it}" if it in signs else it for it in text)
 
 
+# The options beside which a line has nothing else.
+ENDING = ("--help", "--version")
+
+
+def zsh_both(option: Option) -> str:
+    """That only one of its spellings is on a line."""
+    return zsh_quoted(f"({' '.join(option.spellings)})")
+
+
 def zsh_option(option: Option) -> str:
     text = f"[{zsh_escaped(option.text, '[]:')}]"
     if option.value:
         values = "_files" if option.takes_file else f"({numbers(option)})" if option.values else " "
-        return zsh_quoted(f"{option.name}={text}:{option.value}:{values}")
+        behind = f"{text}:{option.value}:{values}"
+        if option.short:
+            return f"{zsh_both(option)}{{{option.short}+,{option.name}=}}{zsh_quoted(behind)}"
+        return zsh_quoted(f"{option.name}={behind}")
     if option.choices:
         return zsh_quoted(f"{option.name}=-{text}::when:({' '.join(option.choices)})")
     if option.short:
-        return f"'(- *)'{{{','.join(option.spellings)}}}{zsh_quoted(text)}"
+        apart = "'(- *)'" if option.name in ENDING else zsh_both(option)
+        return f"{apart}{{{','.join(option.spellings)}}}{zsh_quoted(text)}"
     return zsh_quoted(f"{option.name}{text}")
 
 

@@ -15,7 +15,8 @@ _pcompact_read() {
         elif [[ -z $ended && $word = -* ]]; then
             given+="$word "
             case "$command $word" in
-            'collect --workers' | \
+            'collect -w' | \
+                'collect --workers' | \
                 'collect --region-log' | \
                 'collect --allowance' | \
                 'verify --region-log' | \
@@ -29,6 +30,7 @@ _pcompact_read() {
                 'map --svg' | \
                 'map --region-log' | \
                 'map --allowance' | \
+                'record -w' | \
                 'record --workers' | \
                 'record --region-log' | \
                 'record --allowance' | \
@@ -76,19 +78,19 @@ _pcompact_takes() {
     options= most=0
     case $command in
     '') options='-h --help -V --version' ;;
-    collect) options='--workers --region-log --allowance --atomic --json --stats --progress --verbose -h --help' most=2 ;;
-    verify) options='--explain --ignore-free --region-log --allowance --json --stats --progress --verbose -h --help' most=2 ;;
-    summary) options='--heading --region-log --allowance --json --verbose -h --help' most=1 ;;
-    order) options='--region-log --allowance --json --verbose -h --help' most=1 ;;
-    map) options='--after --width --height --svg --region-log --allowance --letters --color --no-color --atomic --verbose -h --help' most=1 ;;
-    text) options='--verbose -h --help' most=1 ;;
-    assemble) options='--atomic --verbose -h --help' most=2 ;;
-    record) options='--workers --turns --region-log --allowance --atomic --stats --progress --verbose -h --help' most=3 ;;
-    replay) options='--region-log --allowance --progress --verbose -h --help' most=2 ;;
-    timeline) options='--width --svg --html --region-log --allowance --letters --color --no-color --atomic --verbose -h --help' most=2 ;;
-    upgrade) options='--to --progress --atomic --verbose -h --help' most=2 ;;
-    import) options='--region-log --allowance --version --live-only --classes --histogram --json --stats --progress --atomic --verbose -h --help' most=2 ;;
-    generate) options='--words --live --region-log --seed --refs --version --allowance --progress --atomic --verbose -h --help' most=1 ;;
+    collect) options='-w --workers --region-log --allowance --atomic --json --stats --progress -v --verbose -h --help' most=2 ;;
+    verify) options='--explain --ignore-free --region-log --allowance --json --stats --progress -v --verbose -h --help' most=2 ;;
+    summary) options='--heading --region-log --allowance --json -v --verbose -h --help' most=1 ;;
+    order) options='--region-log --allowance --json -v --verbose -h --help' most=1 ;;
+    map) options='--after --width --height --svg --region-log --allowance --letters --color --no-color --atomic -v --verbose -h --help' most=1 ;;
+    text) options='-v --verbose -h --help' most=1 ;;
+    assemble) options='--atomic -v --verbose -h --help' most=2 ;;
+    record) options='-w --workers --turns --region-log --allowance --atomic --stats --progress -v --verbose -h --help' most=3 ;;
+    replay) options='--region-log --allowance --progress -v --verbose -h --help' most=2 ;;
+    timeline) options='--width --svg --html --region-log --allowance --letters --color --no-color --atomic -v --verbose -h --help' most=2 ;;
+    upgrade) options='--to --progress --atomic -v --verbose -h --help' most=2 ;;
+    import) options='--region-log --allowance --version --live-only --classes --histogram --json --stats --progress --atomic -v --verbose -h --help' most=2 ;;
+    generate) options='--words --live --region-log --seed --refs --version --allowance --progress --atomic -v --verbose -h --help' most=1 ;;
     board) options='--steps -h --help' most=0 ;;
     help) options='' most=1 ;;
     esac
@@ -103,14 +105,14 @@ _pcompact_files() {
 # Completes the value of an option; of those that are missing here any number may be meant.
 _pcompact_value() {
     case "$command $option" in
-    'collect --workers') _pcompact_words {1..64} ;;
+    'collect -w' | 'collect --workers') _pcompact_words {1..64} ;;
     'collect --region-log') _pcompact_words {3..20} ;;
     'verify --region-log') _pcompact_words {3..20} ;;
     'summary --region-log') _pcompact_words {3..20} ;;
     'order --region-log') _pcompact_words {3..20} ;;
     'map --svg') _pcompact_files ;;
     'map --region-log') _pcompact_words {3..20} ;;
-    'record --workers') _pcompact_words {1..64} ;;
+    'record -w' | 'record --workers') _pcompact_words {1..64} ;;
     'record --region-log') _pcompact_words {3..20} ;;
     'replay --region-log') _pcompact_words {3..20} ;;
     'timeline --svg') _pcompact_files ;;

@@ -20,7 +20,7 @@ from tests.models.image import FILLER, header
 from tests.support.cases import (BASE, COLLECTED, COMPACTED, LIVE, MOVED, MOVED_LIVE, ONE_WORKER, REPORT, SMALL,
                                  TWO_WORKERS, WORDS, head, image, later, rooted, try_collected, try_groups, try_refused, try_upgraded,
                                  upgraded, with_word)
-from tests.support.program import Answer, Tried, differs, fault, usage
+from tests.support.program import Answer, Tried, differs, fault, outside, usage
 
 FULL = pathlib.Path("/dev/full")
 FAULT_13 = "13 input or output"
@@ -53,7 +53,7 @@ def try_words(tried: Tried) -> None:
     tried.run("board twice", usage("error: unexpected argument 'twice' found\n"))
     missing = "error: the following required arguments were not provided:\n"
     for words, names in (("summary", ["<IMAGE>"]), ("order", ["<IMAGE>"]), ("verify base", ["<AFTER>"]),
-                         ("replay base", ["<SCHEDULE>"]), ("collect base out", ["--workers <n>"]),
+                         ("replay base", ["<SCHEDULE>"]), ("collect base", ["<OUT>"]),
                          ("collect --workers 2", ["<IMAGE>", "<OUT>"]), ("upgrade base", ["<OUT>"]), ("upgrade", ["<IMAGE>", "<OUT>"]),
                          ("record base out --workers 2", ["<SCHEDULE>"])):
         tried.run(words, usage(missing + "".join(f"  {name}\n" for name in names)))
@@ -112,15 +112,24 @@ def try_workers(tried: Tried) -> None:
             tried.run(f"record base out schedule --workers {workers}{turns}", Answer(0, COLLECTED, made={"out": COMPACTED}))
             tried.run("replay base schedule", Answer(0, tried.read("schedule").decode() + "finished\n"))
     tried.run("collect --workers=2 base out", Answer(0, COLLECTED, made={"out": COMPACTED}))
-    for workers in ("0", "65", "4294967295"):
-        tried.run(f"collect base out --workers {workers}", fault("12 workers", nothing))
-        tried.run(f"record base out schedule --workers {workers}", fault("12 workers", nothing))
-        tried.run(f"record base out schedule --workers {workers} --turns", fault("12 workers", nothing))
+    # Without a number there is a worker for each processor.
+    for words in ("collect base out", "collect base out -w 2", "collect -w64 base out", "collect base out -vw=3", "record base out schedule",
+                  "record base out schedule -vw 1"):
+        tried.run(words, Answer(0, COLLECTED, made={"out": COMPACTED}))
+    one = {min(os.sched_getaffinity(0))}
+    for words, workers in (("collect base out", 1), ("collect base out -w 3", 3)):
+        told = re.compile(rf"(?s).*\npcompact: threads {workers}\n.*")
+        tried.run(f"{words} --stats", Answer(0, COLLECTED, told), preexec_fn=lambda: os.sched_setaffinity(0, one))
+    tried.run("collect base out -w 2 --workers 2", usage("error: the argument '--workers <n>' cannot be used multiple times\n"))
+    for workers in ("0", "65", "4294967295", "4294967296"):
+        tried.run(f"collect base out --workers {workers}", outside(workers, nothing))
+        tried.run(f"collect base nothing/out -w {workers} --atomic", outside(workers, nothing))
+        tried.run(f"record base out schedule --workers {workers}", outside(workers, nothing))
+        tried.run(f"record base out schedule --workers {workers} --turns", outside(workers, nothing))
     for workers, said in (("abc", "invalid value 'abc' for '--workers <n>': a whole number is wanted"),
                           ("1.5", "invalid value '1.5' for '--workers <n>': a whole number is wanted"),
                           ("", "invalid value '' for '--workers <n>': cannot parse integer from empty string"),
-                          ("-1", "unexpected argument '-1' found"),
-                          ("4294967296", "invalid value '4294967296' for '--workers <n>': 4294967296 is not in ")):
+                          ("-1", "unexpected argument '-1' found")):
         words = ["collect", "base", "out", "--workers", workers]
         tried.run(words, dataclasses.replace(usage(f"error: {said}"), made=nothing))
     tried.run("collect base out --workers", usage("error: a value is required for '--workers <n>' but none was supplied\n"))
@@ -223,7 +232,7 @@ def try_which_fault(tried: Tried) -> None:
             tried.run("replay first second", fault(said))
         tried.run("verify first nothing", fault(FAULT_13))
         tried.run("replay first nothing", fault(FAULT_13))
-        tried.run("collect first nothing/out --workers 0", fault(FAULT_13))
+        tried.run("collect first nothing/out --workers 1", fault(FAULT_13))
 
 
 BASE_OF_8 = [header(3, 2), 6, 12, header(2, 0, FILLER), 0, header(4, 1), 10, 107, 108, header(2, 1), 1, header(10, 8),
@@ -544,12 +553,11 @@ def try_files(tried: Tried) -> None:
 
 
 def try_kept(tried: Tried) -> None:
-    """Files to write are as they were where IMAGE is none, is of a later version, or the workers are too many."""
+    """Files to write are as they were where IMAGE is none or is of a later version, or SCHEDULE can't be written."""
     tried.write("base", BASE)
     rows = [(text, words) for text in (b"", b"\x89PNG\r\n", BASE[:100], BASE + b"\0")
             for words in ("collect image out --workers 2", "record image out schedule --workers 2", "upgrade image out")]
-    rows += [(BASE, "collect image out --workers 65"), (BASE, "record image out schedule --workers 0"),
-             (upgraded(BASE, 3), "upgrade image out"), (BASE, "record image out nothing/schedule --workers 1")]
+    rows += [(upgraded(BASE, 3), "upgrade image out"), (BASE, "record image out nothing/schedule --workers 1")]
     for text, words in rows:
         tried.write("image", text)
         for name in ("out", "schedule"):

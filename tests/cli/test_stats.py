@@ -169,7 +169,7 @@ def try_nothing_filled(tried: Tried) -> None:
 def try_faults(tried: Tried) -> None:
     """Where the status isn't 0 all is as without the option."""
     tried.write("cut", BASE[:100])
-    for words in ("collect cut out --workers 1", "collect base out --workers 0", "record base out base --workers 1", "verify cut base",
+    for words in ("collect cut out --workers 1", "record base out base --workers 1", "verify cut base",
                   "verify base base", "verify base cut", "collect nothing out --workers 2 --verbose",
                   "collect base /dev/full --workers 1 --verbose", "record base out /dev/full --workers 1"):
         done = subprocess.run([tried.program, *words.split()], cwd=tried.folder, capture_output=True, text=True)

@@ -70,7 +70,7 @@ Options:
       --region-log <k>  Read IMAGE as if its regions had 2^k words, k from 3 to 20
       --allowance <m>   Read IMAGE as if its dense prefix might keep m dead words
       --json            Print a JSON object
-      --verbose         Print details of errors (default; --verbose=never: none)
+  -v, --verbose         Print details of errors (default; --verbose=never: none)
   -h, --help            Print help
 
 Example:
@@ -80,21 +80,21 @@ Example:
 COLLECT_HELP = """\
 Collect a heap image and write the compacted one
 
-Usage: pcompact collect [OPTIONS] --workers <n> <IMAGE> <OUT>
+Usage: pcompact collect [OPTIONS] <IMAGE> <OUT>
 
 Arguments:
   <IMAGE>  A heap image
   <OUT>    Where to write the compacted image
 
 Options:
-      --workers <n>     Number of worker threads, from 1 to 64
+  -w, --workers <n>     Worker threads, from 1 to 64 (default: the processors)
       --region-log <k>  Read IMAGE as if its regions had 2^k words, k from 3 to 20
       --allowance <m>   Read IMAGE as if its dense prefix might keep m dead words
       --atomic          Replace files only once the command has succeeded
       --json            Print a JSON object
       --stats           Print timings and peak memory to stderr
       --progress        Show progress even if standard error is no terminal (or --progress=WHEN: auto, always, never)
-      --verbose         Print details of errors (default; --verbose=never: none)
+  -v, --verbose         Print details of errors (default; --verbose=never: none)
   -h, --help            Print help
 
 Example:
@@ -104,7 +104,7 @@ Example:
 RECORD_HELP = """\
 Collect a heap image and record what each worker does
 
-Usage: pcompact record [OPTIONS] --workers <n> <IMAGE> <OUT> <SCHEDULE>
+Usage: pcompact record [OPTIONS] <IMAGE> <OUT> <SCHEDULE>
 
 Arguments:
   <IMAGE>     A heap image
@@ -112,14 +112,14 @@ Arguments:
   <SCHEDULE>  Where to write the schedule of the workers
 
 Options:
-      --workers <n>     Number of worker threads, from 1 to 64
+  -w, --workers <n>     Worker threads, from 1 to 64 (default: the processors)
       --turns           Let workers take turns, so that each has some of the work
       --region-log <k>  Read IMAGE as if its regions had 2^k words, k from 3 to 20
       --allowance <m>   Read IMAGE as if its dense prefix might keep m dead words
       --atomic          Replace files only once the command has succeeded
       --stats           Print timings and peak memory to stderr
       --progress        Show progress even if standard error is no terminal (or --progress=WHEN: auto, always, never)
-      --verbose         Print details of errors (default; --verbose=never: none)
+  -v, --verbose         Print details of errors (default; --verbose=never: none)
   -h, --help            Print help
 
 Example:
@@ -139,7 +139,7 @@ Options:
       --region-log <k>  Read IMAGE as if its regions had 2^k words, k from 3 to 20
       --allowance <m>   Read IMAGE as if its dense prefix might keep m dead words
       --progress        Show progress even if standard error is no terminal (or --progress=WHEN: auto, always, never)
-      --verbose         Print details of errors (default; --verbose=never: none)
+  -v, --verbose         Print details of errors (default; --verbose=never: none)
   -h, --help            Print help
 
 Example:
@@ -158,7 +158,7 @@ Options:
       --region-log <k>  Read IMAGE as if its regions had 2^k words, k from 3 to 20
       --allowance <m>   Read IMAGE as if its dense prefix might keep m dead words
       --json            Print a JSON object
-      --verbose         Print details of errors (default; --verbose=never: none)
+  -v, --verbose         Print details of errors (default; --verbose=never: none)
   -h, --help            Print help
 
 Example:
@@ -174,7 +174,7 @@ Arguments:
   <IMAGE>  A heap image
 
 Options:
-      --verbose  Print details of errors (default; --verbose=never: none)
+  -v, --verbose  Print details of errors (default; --verbose=never: none)
   -h, --help     Print help
 
 Example:
@@ -192,7 +192,7 @@ Arguments:
 
 Options:
       --atomic   Replace files only once the command has succeeded
-      --verbose  Print details of errors (default; --verbose=never: none)
+  -v, --verbose  Print details of errors (default; --verbose=never: none)
   -h, --help     Print help
 
 Example:
@@ -218,7 +218,7 @@ Options:
       --color           Use colours even if standard output is no terminal (or --color=WHEN: auto, always, never)
       --no-color        Never use colours
       --atomic          Replace files only once the command has succeeded
-      --verbose         Print details of errors (default; --verbose=never: none)
+  -v, --verbose         Print details of errors (default; --verbose=never: none)
   -h, --help            Print help
 
 Example:
@@ -244,7 +244,7 @@ Options:
       --color           Use colours even if standard output is no terminal (or --color=WHEN: auto, always, never)
       --no-color        Never use colours
       --atomic          Replace files only once the command has succeeded
-      --verbose         Print details of errors (default; --verbose=never: none)
+  -v, --verbose         Print details of errors (default; --verbose=never: none)
   -h, --help            Print help
 
 Example:
@@ -269,7 +269,7 @@ Options:
       --json            Print a JSON object
       --stats           Print timings and peak memory to stderr
       --progress        Show progress even if standard error is no terminal (or --progress=WHEN: auto, always, never)
-      --verbose         Print details of errors (default; --verbose=never: none)
+  -v, --verbose         Print details of errors (default; --verbose=never: none)
   -h, --help            Print help
 
 Example:
@@ -289,7 +289,7 @@ Options:
       --to <v>    Version of the upgraded image, from 2 to 3 (default 2)
       --progress  Show progress even if standard error is no terminal (or --progress=WHEN: auto, always, never)
       --atomic    Replace files only once the command has succeeded
-      --verbose   Print details of errors (default; --verbose=never: none)
+  -v, --verbose   Print details of errors (default; --verbose=never: none)
   -h, --help      Print help
 
 Example:
@@ -316,7 +316,7 @@ Options:
       --stats           Print timings and peak memory to stderr
       --progress        Show progress even if standard error is no terminal (or --progress=WHEN: auto, always, never)
       --atomic          Replace files only once the command has succeeded
-      --verbose         Print details of errors (default; --verbose=never: none)
+  -v, --verbose         Print details of errors (default; --verbose=never: none)
   -h, --help            Print help
 
 Example:
@@ -342,7 +342,7 @@ Options:
       --allowance <m>   Number of dead words that the dense prefix may keep (default 0)
       --progress        Show progress even if standard error is no terminal (or --progress=WHEN: auto, always, never)
       --atomic          Replace files only once the command has succeeded
-      --verbose         Print details of errors (default; --verbose=never: none)
+  -v, --verbose         Print details of errors (default; --verbose=never: none)
   -h, --help            Print help
 
 Example:
@@ -409,15 +409,6 @@ error: invalid value '18446744073709551616' for '--allowance <m>': number too la
 For more information, try '--help'.
 """
 
-NO_WORKERS = """\
-error: the following required arguments were not provided:
-  --workers <n>
-
-Usage: pcompact collect --workers <n> <IMAGE> <OUT>
-
-For more information, try '--help'.
-"""
-
 NO_VALUE = """\
 error: a value is required for '--workers <n>' but none was supplied
 
@@ -430,8 +421,8 @@ error: invalid value 'two' for '--workers <n>': a whole number is wanted
 For more information, try '--help'.
 """
 
-TOO_LARGE = """\
-error: invalid value '4294967296' for '--workers <n>': 4294967296 is not in 0..=4294967295
+TOO_MANY = """\
+error: invalid value '65' for '--workers <n>': 65 is not in 1..=64
 
 For more information, try '--help'.
 """
@@ -439,7 +430,7 @@ For more information, try '--help'.
 BELOW_ZERO = """\
 error: unexpected argument '-1' found
 
-Usage: pcompact collect [OPTIONS] --workers <n> <IMAGE> <OUT>
+Usage: pcompact collect [OPTIONS] <IMAGE> <OUT>
 
 For more information, try '--help'.
 """
@@ -447,7 +438,7 @@ For more information, try '--help'.
 OPTION_AS_VALUE = """\
 error: unexpected argument '--live-only' found
 
-Usage: pcompact collect --workers <n> <IMAGE> <OUT>
+Usage: pcompact collect <IMAGE> <OUT>
 
 For more information, try '--help'.
 """
@@ -561,10 +552,9 @@ REFUSED = [
     ("import in out --region-log 2", REGION_LOG_OUTSIDE),
     ("import in out --region-log 21", REGION_LOG_ABOVE),
     ("import in out --allowance 18446744073709551616", NO_ALLOWANCE),
-    ("collect in out", NO_WORKERS),
     ("collect in out --workers", NO_VALUE),
     ("collect in out --workers two", NO_NUMBER),
-    ("collect in out --workers 4294967296", TOO_LARGE),
+    ("collect in out --workers 65", TOO_MANY),
     ("collect in out --workers -1", BELOW_ZERO),
     ("collect in out --workers --allowance", NO_VALUE),
     ("collect in out --workers --live-only", OPTION_AS_VALUE),

@@ -168,13 +168,6 @@ def try_full(tried: Tried) -> None:
             tried.run(f"{words} --verbose", output, stdout=full)
 
 
-def try_workers(tried: Tried) -> None:
-    for asked in (0, 65, 4_294_967_295):
-        answer = told("fault 12 workers", f"reason {asked} is not from 1 to 64")
-        for words in ("collect base out", "record base out made"):
-            try_each(tried, f"{words} --workers {asked}", answer)
-
-
 def try_schedules(tried: Tried) -> None:
     """Lines that are malformed, not allowed, or have another reply, which is reported."""
     malformed = ("reason the line is malformed",)
@@ -379,7 +372,7 @@ def main() -> int:
         tried = Tried(pathlib.Path(sys.argv[1]) if len(sys.argv) > 1 else built(), pathlib.Path(folder))
         tried.write("base", BASE)
         tried.write("compacted", COMPACTED)
-        for group in (try_lengths, try_images, try_hints, try_missing, try_not_permitted, try_full, try_workers, try_schedules,
+        for group in (try_lengths, try_images, try_hints, try_missing, try_not_permitted, try_full, try_schedules,
                       try_verdicts, try_refused_files, try_dumps, try_generated, try_calls, try_no_space, try_errors):
             group(tried)
         tried.write("schedule", "schedule 1 1\n0 look 1 open2\n")

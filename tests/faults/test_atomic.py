@@ -28,7 +28,7 @@ from tests.models import dump as dump_model
 from tests.models import generated_heap as heap_model
 from tests.models import image as model
 from tests.support.cases import BASE, COLLECTED, COMPACTED, MOVED, ONE_WORKER, WORDS, image, rooted, upgraded, with_word
-from tests.support.program import PRELOAD, Answer, Tried, built, fault, launcher, owed, usage
+from tests.support.program import PRELOAD, Answer, Tried, built, fault, launcher, outside, owed, usage
 
 FULL = pathlib.Path("/dev/full")
 FAULT_13 = "13 input or output"
@@ -149,7 +149,7 @@ def try_faults(folder: Folder) -> None:
         for workers in ("0", "65"):
             head, option, tail = words.partition("--workers ")
             if option:
-                folder.run(f"{head}{option}{workers}{tail[1:]}", fault("12 workers"), "workers", lay())
+                folder.run(f"{head}{option}{workers}{tail[1:]}", outside(workers), "workers", lay())
 
 
 def try_imports(folder: Folder) -> None:

@@ -123,7 +123,7 @@ over() {
     each collect "$1" "$room/made/out" --workers 1
     each collect "$1" "$room/made/out" --workers 2
     each collect "$1" "$room/made/out" --workers 2 --region-log 4 --allowance 3
-    each collect "$1" "$room/made/out" --workers 65
+    each collect "$1" "$room/made/out"
     each record "$1" "$room/made/out" "$room/made/schedule" --workers 1
     each upgrade "$1" "$room/made/out"
     each replay "$1" "$room/schedule"

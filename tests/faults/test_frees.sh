@@ -99,7 +99,7 @@ each summary "$room/cut"
 each summary "$room/nothing"
 each collect "$base" "$room/made" --workers 1
 each collect "$base" "$room/made" --workers 2
-each collect "$base" "$room/made" --workers 65
+each collect "$base" "$room/made"
 each collect "$base" "$room/made" --workers 1 --stats
 each collect "$room/cut" "$room/made" --workers 2
 each record "$base" "$room/made" "$room/made_schedule" --workers 1

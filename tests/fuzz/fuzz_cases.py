@@ -9,7 +9,7 @@ from tests.models.heap_text import assembled, text_of
 from tests.models.image import Collection, Fault, Image, allows, decode, encode, upgraded, verdict
 from tests.models.schedule import ANY, MAX_WORKERS, Schedule, is_recorded, read, recorded_by_one, replayed
 from tests.models.timeline import Timeline
-from tests.support.program import Answer, Tried, differs, fault
+from tests.support.program import Answer, Tried, differs, fault, outside
 
 # Words of an image for which the model takes long.
 MANY_WORDS = 1 << 14
@@ -26,8 +26,8 @@ def atomic_or_not(chance: random.Random) -> str:
 def try_refused(tried: Tried, said: str, chance: random.Random) -> None:
     """An image that is none, under `summary` and other commands."""
     tried.run("summary image", fault(said))
-    workers, flag = chance.choice([0, MAX_WORKERS + 1, *range(1, 9)]), atomic_or_not(chance)
-    # The image is read before the schedule, and before workers are counted.
+    workers, flag = chance.choice(range(1, 9)), atomic_or_not(chance)
+    # The image is read before the schedule.
     tried.write("schedule", chance.choice(["", "schedule 1 1\n", "schedule 1 1\n0 claim 0 ?"]))
     commands = [("order image", {}), ("text image", {}), ("map image --after", {}), (f"map image --svg drawn{flag}", {"drawn": None}), ("replay image schedule", {}), ("timeline image schedule", {}), (f"timeline image schedule --html drawn{flag}", {"drawn": None}), ("verify image base", {}), ("verify base image", {}),
                 (f"collect image out --workers {workers}{flag}", {"out": None}),
@@ -55,9 +55,8 @@ def try_collected(tried: Tried, collection: Collection, chance: random.Random) -
               dataclasses.replace(collected, made=collected.made | {"schedule": alone.encode()}))
     if chance.randrange(8) == 0:
         workers, flag = chance.choice([0, MAX_WORKERS + 1, 2 ** 32 - 1]), atomic_or_not(chance)
-        tried.run(f"collect image out --workers {workers}{flag}", fault("12 workers", {"out": None}))
-        tried.run(f"record image out schedule --workers {workers}{flag}",
-                  fault("12 workers", {"out": None, "schedule": None}))
+        tried.run(f"collect image out --workers {workers}{flag}", outside(workers, {"out": None}))
+        tried.run(f"record image out schedule --workers {workers}{flag}", outside(workers, {"out": None, "schedule": None}))
     if image.version != 1 and allows(1, image.region_log, len(image.words)):
         try_twin(tried, as_version_1(image), alone)
     try_upgraded(tried, image)

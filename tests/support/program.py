@@ -53,6 +53,11 @@ def usage(text: str) -> Answer:
     return Answer(2, err=text)
 
 
+def outside(workers: int | str, made: dict[str, bytes | None] | None = None) -> Answer:
+    """What is said of so many workers, where 1 to 64 are allowed."""
+    return Answer(2, err=f"error: invalid value '{workers}' for '--workers <n>': {workers} is not in 1..=64\n", made=made or {})
+
+
 class Tried:
     """A copy of the program in a folder, and how often it was tried and wrong. What is wrong is printed at once."""
 

@@ -4,7 +4,7 @@ ghost use Rattle.collector.specs.Streams.{IsTextBegun, IsFirstOfBytes};
 ghost use Rattle.collection_commands.specs.Collect.{IsCollection};
 ghost use Rattle.collection_commands.specs.Figures.{IsFigures, figures_line};
 
-use crate::collection::{Run, collect_files, late_file};
+use crate::collection::{Run, collect_files, late_file, worker_count};
 use crate::figures::{FiguresLine, LINE_ROOM, with_line};
 use crate::timed_gate::TimedGate;
 use collector::collect;
@@ -28,7 +28,8 @@ where
     R::File: FileExt + SystemFile + Sync,
     ensures { IfOk result (λ done. IsFigures done.text.items) }
 {
-    let run = Run::start(rt, request.stats, request.workers, false);
+    let workers = worker_count(rt, request.workers);
+    let run = Run::start(rt, request.stats, workers, false);
     let (image, out) = image_and_out(rt, request.image, request.out, request.atomic)?;
     let out = late_file(rt, out, None, image.regular_len())?;
     collect_files(rt, &run, image.with_shape(request.shape), out, None)

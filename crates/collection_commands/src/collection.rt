@@ -1,5 +1,5 @@
 //! A collection from file to file, with its schedule or without.
-ghost use Rattle.std.specs.Prelude.{◌≡◌, IfOk, string_bytes};
+ghost use Rattle.std.specs.Prelude.{◌≡◌, ◌≤◌, None, IfOk, IfSome, string_bytes};
 ghost use Rattle.collection_commands.specs.Figures.{IsFigures};
 
 use crate::collect::collect_into;
@@ -12,6 +12,8 @@ use command_host::ImageFile;
 use command_support::{Trouble, Watched};
 use command_times::{Moved, Phase, PhaseTimes, Stats};
 use heap_image::{Fault, Intake, Outlet, ToWrite};
+use history::MAX_WORKERS;
+use rayon::current_num_threads;
 use std::io::Write;
 use std::os::unix::fs::FileExt;
 use std::rt::Files;
@@ -48,6 +50,17 @@ impl<'h, H: Clock> Run<'h, H> {
             words: figures.new_top.saturating_sub(figures.prefix_end),
         };
         Stats::of_collection(&self.times, moved, self.workers)
+    }
+}
+
+/// As many workers as are asked for, else one for each processor that the system grants, and at most 64.
+pub fn worker_count(threads: &impl Threads, asked: Option<u32>) -> u32
+    ensures asked { IfSome asked (λ count. result ≡ count) }
+    ensures usual { asked ≡ None → (1 ≤ result) × (result ≤ 64) }
+{
+    match asked {
+        Some(count) => count,
+        None => current_num_threads(threads).min(MAX_WORKERS as usize) as u32,
     }
 }
 
@@ -91,8 +104,7 @@ where
             Ok(all_ended(line, out, schedule)?.with_stats(stats))
         }
         Err(fault) => {
-            let trouble = Trouble::from(fault).if_workers(run.workers);
-            let trouble = trouble.if_image(&image.into_inner());
+            let trouble = Trouble::from(fault).if_image(&image.into_inner());
             Err(all_failed(trouble, out, schedule))
         }
     }

@@ -4,7 +4,7 @@ ghost use Rattle.collector.specs.Streams.{IsTextBegun, IsFirstOfBytes, IsTextWri
 ghost use Rattle.collection_commands.specs.Record.{IsRecording};
 ghost use Rattle.collection_commands.specs.Figures.{IsFigures, figures_line};
 
-use crate::collection::{Run, collect_files, late_file};
+use crate::collection::{Run, collect_files, late_file, worker_count};
 use crate::figures::{FiguresLine, LINE_ROOM, with_line};
 use crate::turn_gate::TurnGate;
 use collector::record;
@@ -32,7 +32,8 @@ where
     R::File: FileExt + SystemFile + Sync,
     ensures { IfOk result (λ done. IsFigures done.text.items) }
 {
-    let run = Run::start(rt, request.stats, request.workers, request.turns);
+    let workers = worker_count(rt, request.workers);
+    let run = Run::start(rt, request.stats, workers, request.turns);
     let (image, out, schedule) = image_out_and_schedule(rt, &request)?;
     let image = image.with_shape(request.shape);
     let (out, schedule) = both_late(rt, out, image.regular_len(), schedule)?;

@@ -9,22 +9,22 @@ use Rattle.clap.specs.declared.builder.action.ArgAction.TheVariants.{SetTrue}
 abbrev pub file_rule : Text → Rule
 file_rule id = record (new_rule id) { required = true }
 
--- the required option `--workers`, with a number of 32 bits
+-- the option `--workers` or `-w`, with a number from 1 to 64
 abbrev pub workers_rule : Rule
 workers_rule = record (new_rule (codes "workers")) {
   long = Some (codes "workers");
+  short = Some 119;
   value_names = 1;
-  parser = Some (Signed (pos 0) (pos 4294967295));
-  required = true;
+  parser = Some (Signed (pos 1) (pos 64));
 }
 
 -- an optional option of this name, without a value
 abbrev pub flag_rule : Text → Rule
 flag_rule name = record (new_rule name) { long = Some name; action = Some SetTrue }
 
--- the option `--verbose`
+-- the option `--verbose` or `-v`
 abbrev pub verbose_rule : Rule
-verbose_rule = flag_rule (codes "verbose")
+verbose_rule = record (flag_rule (codes "verbose")) { short = Some 118 }
 
 -- the option `--stats`
 abbrev pub stats_rule : Rule

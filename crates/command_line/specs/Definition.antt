@@ -6,7 +6,7 @@ use Rattle.clap.specs.declared.builder.value_parser.ValueParser.{ValueParser}
 use Rattle.clap.specs.declared.builder.value_parser.ValueParser.TheVariants.{Signed, Unsigned}
 use Rattle.command_line.specs.Arguments.{file_rule, flag_rule}
 use Rattle.command_line.specs.declared.definition.Argument.{Argument}
-use Rattle.command_line.specs.declared.definition.Argument.TheVariants.{File, Flag, Valued}
+use Rattle.command_line.specs.declared.definition.Argument.TheVariants.{File, Flag, ShortFlag, Valued, ShortValued}
 use Rattle.command_line.specs.declared.definition.Definition.{Definition}
 use Rattle.command_line.specs.declared.definition.Valued.{Valued as ValuedOption}
 use Rattle.command_line.specs.declared.definition.Values.{Values}
@@ -31,7 +31,9 @@ valued_rule valued = record (new_rule valued.name.now) {
 abbrev pub rule_in : Argument → Rule
 rule_in (File name help) = file_rule name.now
 rule_in (Flag name help) = flag_rule name.now
+rule_in (ShortFlag letter name help) = record (flag_rule name.now) { short = Some letter }
 rule_in (Valued valued) = valued_rule valued
+rule_in (ShortValued letter valued) = record (valued_rule valued) { short = Some letter }
 
 -- adds these arguments in turn
 abbrev pub with_rules : App → List Rule → App

@@ -13,14 +13,17 @@ pub const OUT: Argument = Argument::File("OUT", "Where to write the compacted im
 /// The schedule that a command reads.
 pub const SCHEDULE: Argument = Argument::File("SCHEDULE", "A schedule for the image");
 
-/// The required option `--workers`.
-pub const WORKERS: Argument = Argument::Valued(Valued {
-    name: "workers",
-    value: "n",
-    values: Values::Numbers(0, u32::MAX),
-    is_required: true,
-    help: "Number of worker threads, from 1 to 64",
-});
+/// The option `--workers`.
+pub const WORKERS: Argument = Argument::ShortValued(
+    'w',
+    Valued {
+        name: "workers",
+        value: "n",
+        values: Values::Numbers(1, 64),
+        is_required: false,
+        help: "Worker threads, from 1 to 64 (default: the processors)",
+    },
+);
 
 /// The option `--region-log`, the binary logarithm of the region size in words, for how the file IMAGE is read.
 pub const REGION_LOG: Valued = Valued {
@@ -98,7 +101,8 @@ pub const PROGRESS: Argument = Argument::Flag(
 );
 
 /// The option `--verbose`.
-pub const VERBOSE: Argument = Argument::Flag(
+pub const VERBOSE: Argument = Argument::ShortFlag(
+    'v',
     "verbose",
     "Print details of errors (default; --verbose=never: none)",
 );

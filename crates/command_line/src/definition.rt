@@ -2,6 +2,7 @@
 ghost use Rattle.std.specs.Prelude.{◌≡◌, false, IfOk};
 ghost use Rattle.clap.specs.Words.{app_of, rule_of};
 ghost use Rattle.clap.specs.declared.builder.command.Command.TheViews.{out-Command as fields_of};
+ghost use Rattle.command_line.specs.Arguments.{flag_rule};
 ghost use Rattle.command_line.specs.Definition.{app_in, rule_in, valued_rule};
 
 use clap::builder::ValueParser;
@@ -25,8 +26,12 @@ pub enum Argument {
     File(&'static str, &'static str),
     /// An optional option of this name, without a value.
     Flag(&'static str, &'static str),
+    /// The same, which this letter stands for, too.
+    ShortFlag(char, &'static str, &'static str),
     /// An option with a value.
     Valued(Valued),
+    /// The same, which this letter stands for, too.
+    ShortValued(char, Valued),
 }
 
 /// An option with a value.
@@ -74,13 +79,23 @@ impl Argument {
     {
         match *self {
             Argument::File(name, help) => Arg::new(alloc, name).help(help).required(true),
-            Argument::Flag(name, help) => Arg::new(alloc, name)
-                .long(name)
-                .action(ArgAction::SetTrue)
-                .help(help),
+            Argument::Flag(name, help) => flag(alloc, name, help),
+            Argument::ShortFlag(letter, name, help) => flag(alloc, name, help).short(letter),
             Argument::Valued(valued) => valued.arg(alloc),
+            Argument::ShortValued(letter, valued) => valued.arg(alloc).short(letter),
         }
     }
+}
+
+/// The option of this name, without a value.
+fn flag<'a>(alloc: Global, name: &'static str, help: &'static str) -> Arg<'a>
+    ensures rule { rule_of result ≡ flag_rule name.now }
+    ensures local { result.global ≡ false }
+{
+    Arg::new(alloc, name)
+        .long(name)
+        .action(ArgAction::SetTrue)
+        .help(help)
 }
 
 impl Valued {

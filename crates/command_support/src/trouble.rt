@@ -157,16 +157,6 @@ impl Trouble {
         }
     }
 
-    /// Adds the requested number of workers, if that isn't allowed.
-    pub fn if_workers(self, count: u32) -> Trouble
-        ensures { result.failure ≡ self.failure }
-    {
-        match self.fault() {
-            Some(Fault::Workers) => self.because(Reason::Workers(count)),
-            _ => self,
-        }
-    }
-
     /// Adds this file, if it is about a line of the schedule in it or a call on it failed, and the reason.
     pub fn if_line<F: Drop>(self, schedule: &Watched<'_, F>, reason: Option<LineReason>) -> Trouble
         ensures { result.failure ≡ self.failure }

@@ -41,8 +41,8 @@ pub struct Collect<'a> {
     pub image: &'a str,
     /// The file for the compacted image.
     pub out: &'a str,
-    /// The number of workers.
-    pub workers: u32,
+    /// The number of workers, if it is on the line.
+    pub workers: Option<u32>,
     /// What the image is read with in place of what is in its head.
     pub shape: Shape,
     /// Whether files are replaced only once all is done.
@@ -58,18 +58,14 @@ impl<'a> Collect<'a> {
     pub(crate) fn request(matches: &ArgMatches<'a>) -> Option<Request<'a>>
         ensures { IfSome result (IsFor (codes "collect")) }
     {
-        let required = (
-            matches.get_str("IMAGE"),
-            matches.get_str("OUT"),
-            matches.get_one("workers"),
-        );
-        let (Some(image), Some(out), Some(workers)) = required else {
+        let required = (matches.get_str("IMAGE"), matches.get_str("OUT"));
+        let (Some(image), Some(out)) = required else {
             return None;
         };
         Some(Request::Collect(Collect {
             image,
             out,
-            workers,
+            workers: matches.get_one("workers"),
             shape: Shape::of(matches),
             atomic: matches.get_flag("atomic"),
             json: matches.get_flag("json"),
@@ -80,6 +76,8 @@ impl<'a> Collect<'a> {
 
 /// Lines that call `collect`.
 pub fn lines_call_collect()
+    ensures default { IsCallOf (codes "collect") (codes "collect" ∷ codes "heap.pcheap" ∷ codes "out.pcheap" ∷ []) }
+    ensures letters { IsCallOf (codes "collect") (codes "collect" ∷ codes "heap.pcheap" ∷ codes "out.pcheap" ∷ codes "-vw" ∷ codes "64" ∷ []) }
     ensures line { IsCallOf (codes "collect") (codes "collect" ∷ codes "heap.pcheap" ∷ codes "out.pcheap" ∷ codes "--workers" ∷ codes "2" ∷ []) }
     ensures options { IsCallOf (codes "collect") (codes "collect" ∷ codes "heap.pcheap" ∷ codes "heap.pcheap" ∷ codes "--workers" ∷ codes "2" ∷ codes "--atomic" ∷ codes "--stats" ∷ codes "--json" ∷ codes "--verbose" ∷ codes "--region-log" ∷ codes "12" ∷ codes "--allowance" ∷ codes "64" ∷ codes "--progress" ∷ []) }
 {}

@@ -47,8 +47,8 @@ pub struct Record<'a> {
     pub out: &'a str,
     /// The file for the schedule.
     pub schedule: &'a str,
-    /// The number of workers.
-    pub workers: u32,
+    /// The number of workers, if it is on the line.
+    pub workers: Option<u32>,
     /// Whether workers take turns.
     pub turns: bool,
     /// What the image is read with in place of what is in its head.
@@ -68,16 +68,15 @@ impl<'a> Record<'a> {
             matches.get_str("IMAGE"),
             matches.get_str("OUT"),
             matches.get_str("SCHEDULE"),
-            matches.get_one("workers"),
         );
-        let (Some(image), Some(out), Some(schedule), Some(workers)) = required else {
+        let (Some(image), Some(out), Some(schedule)) = required else {
             return None;
         };
         Some(Request::Record(Record {
             image,
             out,
             schedule,
-            workers,
+            workers: matches.get_one("workers"),
             turns: matches.get_flag("turns"),
             shape: Shape::of(matches),
             atomic: matches.get_flag("atomic"),
@@ -88,6 +87,7 @@ impl<'a> Record<'a> {
 
 /// Lines that call `record`.
 pub fn line_calls_record()
+    ensures default { IsCallOf (codes "record") (codes "record" ∷ codes "heap.pcheap" ∷ codes "out.pcheap" ∷ codes "schedule" ∷ []) }
     ensures line { IsCallOf (codes "record") (codes "record" ∷ codes "heap.pcheap" ∷ codes "out.pcheap" ∷ codes "schedule" ∷ codes "--workers=2" ∷ []) }
     ensures options { IsCallOf (codes "record") (codes "record" ∷ codes "heap.pcheap" ∷ codes "out.pcheap" ∷ codes "schedule" ∷ codes "--workers=2" ∷ codes "--turns" ∷ codes "--stats" ∷ codes "--region-log" ∷ codes "12" ∷ codes "--allowance" ∷ codes "64" ∷ codes "--progress" ∷ []) }
 {}

@@ -1,7 +1,7 @@
 //! Reasons of faults.
 use super::failed_call::FailedCall;
 use heap_image::LengthCause;
-use history::{LineCause, MAX_WORKERS};
+use history::LineCause;
 use std::io::Write;
 use std::{fmt, io};
 
@@ -10,8 +10,6 @@ use std::{fmt, io};
 pub enum Reason {
     /// Fault 4: which of its conditions holds.
     Length(LengthCause),
-    /// Fault 12: the requested number of workers.
-    Workers(u32),
     /// Fault 13: the system call that failed.
     SystemCall(FailedCall),
     /// Fault 13: the write to standard output that failed.
@@ -34,12 +32,6 @@ impl Reason {
     pub fn print<B: Write>(&self, err: &mut B) -> io::Result<()> {
         match self {
             Reason::Length(cause) => writeln!(err, "pcompact: reason {cause}"),
-            Reason::Workers(count) => {
-                writeln!(
-                    err,
-                    "pcompact: reason {count} is not from 1 to {MAX_WORKERS}"
-                )
-            }
             Reason::SystemCall(failed) => failed.print(err),
             Reason::Output(failed) => {
                 writeln!(err, "pcompact: standard output")?;

@@ -9,3 +9,7 @@ returns-clause-line c = (refl, refl)
 pub returns-clause-options : goal.returns-clause-options
 unfolding clap_on_literals
 returns-clause-options c = (refl, refl)
+
+pub returns-clause-default : goal.returns-clause-default
+unfolding clap_on_literals
+returns-clause-default c = (refl, refl)
