@@ -69,8 +69,9 @@ class Help:
         usage = [title for title in sections if title.startswith("Usage: ")]
         if "\n" in first or len(usage) != 1:
             raise ValueError(f"the help of {name} doesn't begin with a line of what it does and one of its usage")
-        del sections[usage[0]]
-        return cls(name, first, usage[0].removeprefix("Usage: "),
+        # A long usage has further lines.
+        whole = " ".join([usage[0], *(line.strip() for line in sections.pop(usage[0]))])
+        return cls(name, first, whole.removeprefix("Usage: "),
                    [(name.strip("<>[]."), text) for name, text in items(sections.pop("Arguments:", []))],
                    [option_of(line) for line in sections.pop("Options:", [])], sections)
 

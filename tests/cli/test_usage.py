@@ -28,10 +28,10 @@ Commands:
   record    Collect a heap image and record what each worker does
   replay    Replay a schedule word by word and print it with all replies
   timeline  Draw which worker has which region along the lines of a schedule
-  upgrade   Convert a heap image to version 2, which has roots, or 3, which may be larger
+  upgrade   Convert a heap image to version 2 or 3, with roots
   import    Convert the heap dump of a Java virtual machine to a heap image
   generate  Generate a heap image from a seed, for benchmarks and experiments
-  board     Schedule three regions among two workers, and count claims and completions
+  board     Schedule three regions among two workers, and count claims
   help      Print this message or the help of the given subcommand(s)
 
 Options:
@@ -40,12 +40,12 @@ Options:
 
 Exit status:
   0  success, also of help and version
-  1  a fault, images that differ, a bad dump or a bad text; standard error says which
+  1  a fault, images that differ, a bad dump or text; standard error says which
   2  invalid usage; standard error says why
 """
 
 BOARD_HELP = """\
-Schedule three regions among two workers, and count claims and completions
+Schedule three regions among two workers, and count claims
 
 Usage: pcompact board [OPTIONS]
 
@@ -66,9 +66,9 @@ Arguments:
   <IMAGE>  A heap image
 
 Options:
-      --heading         Print the names of the columns even if standard output is no terminal
-      --region-log <k>  Read IMAGE as if its regions had 2^k words, k from 3 to 20
-      --allowance <m>   Read IMAGE as if its dense prefix might keep m dead words
+      --heading         Print column names even if output is no terminal
+      --region-log <k>  Read IMAGE with regions of 2^k words, k from 3 to 20
+      --allowance <m>   Read IMAGE as if its prefix might keep m dead words
       --json            Print a JSON object
   -v, --verbose         Print details of errors (default; --verbose=never: none)
   -h, --help            Print help
@@ -88,12 +88,12 @@ Arguments:
 
 Options:
   -w, --workers <n>     Worker threads, from 1 to 64 (default: the processors)
-      --region-log <k>  Read IMAGE as if its regions had 2^k words, k from 3 to 20
-      --allowance <m>   Read IMAGE as if its dense prefix might keep m dead words
+      --region-log <k>  Read IMAGE with regions of 2^k words, k from 3 to 20
+      --allowance <m>   Read IMAGE as if its prefix might keep m dead words
       --atomic          Replace files only once the command has succeeded
       --json            Print a JSON object
       --stats           Print timings and peak memory to stderr
-      --progress        Show progress even if standard error is no terminal (or --progress=WHEN: auto, always, never)
+      --progress        Show progress (or --progress=WHEN: auto, always, never)
   -v, --verbose         Print details of errors (default; --verbose=never: none)
   -h, --help            Print help
 
@@ -113,12 +113,12 @@ Arguments:
 
 Options:
   -w, --workers <n>     Worker threads, from 1 to 64 (default: the processors)
-      --turns           Let workers take turns, so that each has some of the work
-      --region-log <k>  Read IMAGE as if its regions had 2^k words, k from 3 to 20
-      --allowance <m>   Read IMAGE as if its dense prefix might keep m dead words
+      --turns           Let workers take turns, so that each has some work
+      --region-log <k>  Read IMAGE with regions of 2^k words, k from 3 to 20
+      --allowance <m>   Read IMAGE as if its prefix might keep m dead words
       --atomic          Replace files only once the command has succeeded
       --stats           Print timings and peak memory to stderr
-      --progress        Show progress even if standard error is no terminal (or --progress=WHEN: auto, always, never)
+      --progress        Show progress (or --progress=WHEN: auto, always, never)
   -v, --verbose         Print details of errors (default; --verbose=never: none)
   -h, --help            Print help
 
@@ -136,9 +136,9 @@ Arguments:
   <SCHEDULE>  A schedule for the image
 
 Options:
-      --region-log <k>  Read IMAGE as if its regions had 2^k words, k from 3 to 20
-      --allowance <m>   Read IMAGE as if its dense prefix might keep m dead words
-      --progress        Show progress even if standard error is no terminal (or --progress=WHEN: auto, always, never)
+      --region-log <k>  Read IMAGE with regions of 2^k words, k from 3 to 20
+      --allowance <m>   Read IMAGE as if its prefix might keep m dead words
+      --progress        Show progress (or --progress=WHEN: auto, always, never)
   -v, --verbose         Print details of errors (default; --verbose=never: none)
   -h, --help            Print help
 
@@ -155,8 +155,8 @@ Arguments:
   <IMAGE>  A heap image
 
 Options:
-      --region-log <k>  Read IMAGE as if its regions had 2^k words, k from 3 to 20
-      --allowance <m>   Read IMAGE as if its dense prefix might keep m dead words
+      --region-log <k>  Read IMAGE with regions of 2^k words, k from 3 to 20
+      --allowance <m>   Read IMAGE as if its prefix might keep m dead words
       --json            Print a JSON object
   -v, --verbose         Print details of errors (default; --verbose=never: none)
   -h, --help            Print help
@@ -209,13 +209,13 @@ Arguments:
 
 Options:
       --after           Also draw the heap after its collection
-      --width <n>       Number of cells of a row, from 1 to 1000 (default: what a terminal has room for, or 64)
-      --height <n>      Number of rows, from 1 to 100 (default: 1, or what a terminal has room for, or 8 of a drawing)
-      --svg <FILE>      Write the picture to this file as SVG, and print only the figures
-      --region-log <k>  Read IMAGE as if its regions had 2^k words, k from 3 to 20
-      --allowance <m>   Read IMAGE as if its dense prefix might keep m dead words
-      --letters         Draw with letters even if the locale has block characters
-      --color           Use colours even if standard output is no terminal (or --color=WHEN: auto, always, never)
+      --width <n>       Cells of a row, 1 to 1000 (default: what fits, or 64)
+      --height <n>      Rows, 1 to 100 (default: what fits, or 1; 8 in SVG)
+      --svg <FILE>      Draw into this file as SVG, and print only the figures
+      --region-log <k>  Read IMAGE with regions of 2^k words, k from 3 to 20
+      --allowance <m>   Read IMAGE as if its prefix might keep m dead words
+      --letters         Draw with letters even if the locale has blocks
+      --color           Use colours (or --color=WHEN: auto, always, never)
       --no-color        Never use colours
       --atomic          Replace files only once the command has succeeded
   -v, --verbose         Print details of errors (default; --verbose=never: none)
@@ -235,13 +235,13 @@ Arguments:
   <SCHEDULE>  A schedule for the image
 
 Options:
-      --width <n>       Number of cells of a lane, from 1 to 1000 (default: what a terminal has room for, or 64)
-      --svg <FILE>      Write the lanes to this file as SVG, and print only the figures
-      --html <FILE>     Write a page to this file that steps through the schedule, and print only the figures
-      --region-log <k>  Read IMAGE as if its regions had 2^k words, k from 3 to 20
-      --allowance <m>   Read IMAGE as if its dense prefix might keep m dead words
-      --letters         Draw with letters even if the locale has block characters
-      --color           Use colours even if standard output is no terminal (or --color=WHEN: auto, always, never)
+      --width <n>       Cells of a lane, 1 to 1000 (default: what fits, or 64)
+      --svg <FILE>      Draw into this file as SVG, and print only the figures
+      --html <FILE>     Write a page of the schedule, and print only the figures
+      --region-log <k>  Read IMAGE with regions of 2^k words, k from 3 to 20
+      --allowance <m>   Read IMAGE as if its prefix might keep m dead words
+      --letters         Draw with letters even if the locale has blocks
+      --color           Use colours (or --color=WHEN: auto, always, never)
       --no-color        Never use colours
       --atomic          Replace files only once the command has succeeded
   -v, --verbose         Print details of errors (default; --verbose=never: none)
@@ -262,13 +262,13 @@ Arguments:
   <AFTER>   The image to compare with its compaction
 
 Options:
-      --explain         Say which words differ, in which objects, and where wrong references lead
+      --explain         Say which words differ and where references lead
       --ignore-free     Don't compare the words above the top
-      --region-log <k>  Read BEFORE as if its regions had 2^k words, k from 3 to 20
-      --allowance <m>   Read BEFORE as if its dense prefix might keep m dead words
+      --region-log <k>  Read BEFORE with regions of 2^k words, k from 3 to 20
+      --allowance <m>   Read BEFORE as if its prefix might keep m dead words
       --json            Print a JSON object
       --stats           Print timings and peak memory to stderr
-      --progress        Show progress even if standard error is no terminal (or --progress=WHEN: auto, always, never)
+      --progress        Show progress (or --progress=WHEN: auto, always, never)
   -v, --verbose         Print details of errors (default; --verbose=never: none)
   -h, --help            Print help
 
@@ -277,7 +277,7 @@ Example:
 """
 
 UPGRADE_HELP = """\
-Convert a heap image to version 2, which has roots, or 3, which may be larger
+Convert a heap image to version 2 or 3, with roots
 
 Usage: pcompact upgrade [OPTIONS] <IMAGE> <OUT>
 
@@ -287,7 +287,7 @@ Arguments:
 
 Options:
       --to <v>    Version of the upgraded image, from 2 to 3 (default 2)
-      --progress  Show progress even if standard error is no terminal (or --progress=WHEN: auto, always, never)
+      --progress  Show progress (or --progress=WHEN: auto, always, never)
       --atomic    Replace files only once the command has succeeded
   -v, --verbose   Print details of errors (default; --verbose=never: none)
   -h, --help      Print help
@@ -307,14 +307,14 @@ Arguments:
 
 Options:
       --region-log <k>  Regions have 2^k words, k from 3 to 20 (default 9)
-      --allowance <m>   Number of dead words that the dense prefix may keep (default 0)
-      --version <v>     Version of the image, from 2 to 3 (default 2, or 3 for a larger heap)
+      --allowance <m>   Dead words that the dense prefix may keep (default 0)
+      --version <v>     Image version, from 2 to 3 (default 2, larger heaps 3)
       --live-only       Keep only objects that are reachable from the roots
-      --classes <FILE>  List each object's address, class and bytes, and whether it is live
+      --classes <FILE>  List each object: address, class, bytes, live or dead
       --histogram <n>   Print the n classes with the most bytes, live and dead
       --json            Print a JSON object
       --stats           Print timings and peak memory to stderr
-      --progress        Show progress even if standard error is no terminal (or --progress=WHEN: auto, always, never)
+      --progress        Show progress (or --progress=WHEN: auto, always, never)
       --atomic          Replace files only once the command has succeeded
   -v, --verbose         Print details of errors (default; --verbose=never: none)
   -h, --help            Print help
@@ -327,20 +327,21 @@ Example:
 GENERATE_HELP = """\
 Generate a heap image from a seed, for benchmarks and experiments
 
-Usage: pcompact generate [OPTIONS] --words <n> --live <share> --region-log <k> --seed <s> <IMAGE>
+Usage: pcompact generate [OPTIONS] --words <n> --live <share> --region-log <k>
+       --seed <s> <IMAGE>
 
 Arguments:
   <IMAGE>  Where to write the image
 
 Options:
-      --words <n>       Number of words of the heap, a multiple of 2^k and at most 68719476736
-      --live <share>    Percentage of the words that belongs to live objects, 0 to 100
+      --words <n>       Words of the heap, a multiple of 2^k, at most 2^36
+      --live <share>    Percentage of words in live objects, 0 to 100
       --region-log <k>  Regions have 2^k words, k from 3 to 20
-      --seed <s>        A number of 64 bits; the same seed gives the same bytes everywhere
-      --refs <share>    Percentage of the words after the headers that are references, 0 to 100 (default 25)
-      --version <v>     Version of the image, from 1 to 3: 1 lists the live objects (default 2, or 3 for a larger heap)
-      --allowance <m>   Number of dead words that the dense prefix may keep (default 0)
-      --progress        Show progress even if standard error is no terminal (or --progress=WHEN: auto, always, never)
+      --seed <s>        A number of 64 bits; the same seed gives the same bytes
+      --refs <share>    Percentage of references after headers (default 25)
+      --version <v>     Image version, from 1 to 3 (default 2, larger heaps 3)
+      --allowance <m>   Dead words that the dense prefix may keep (default 0)
+      --progress        Show progress (or --progress=WHEN: auto, always, never)
       --atomic          Replace files only once the command has succeeded
   -v, --verbose         Print details of errors (default; --verbose=never: none)
   -h, --help            Print help
@@ -577,8 +578,11 @@ REFUSED = [
 
 
 def try_helps(tried: Tried) -> None:
+    """Each help is as it stands here, and fits into 80 columns."""
     for words, text in HELPS:
         tried.run(words, Answer(0, text))
+        if any(len(line) > 80 for line in text.splitlines()):
+            tried.is_wrong(f"pcompact {words}: a line is too long")
 
 
 def try_refused_words(tried: Tried) -> None:

@@ -31,7 +31,7 @@ pub const REGION_LOG: Valued = Valued {
     value: "k",
     values: Values::Numbers(3, 20),
     is_required: false,
-    help: "Read IMAGE as if its regions had 2^k words, k from 3 to 20",
+    help: "Read IMAGE with regions of 2^k words, k from 3 to 20",
 };
 
 /// The option `--allowance`, the number of dead words that the dense prefix may keep, for how the file IMAGE is read.
@@ -40,12 +40,12 @@ pub const ALLOWANCE: Valued = Valued {
     value: "m",
     values: Values::LargeNumbers(0, u64::MAX),
     is_required: false,
-    help: "Read IMAGE as if its dense prefix might keep m dead words",
+    help: "Read IMAGE as if its prefix might keep m dead words",
 };
 
 /// The option `--allowance` of a command that makes an image.
 pub const NEW_ALLOWANCE: Argument = Argument::Valued(Valued {
-    help: "Number of dead words that the dense prefix may keep (default 0)",
+    help: "Dead words that the dense prefix may keep (default 0)",
     ..ALLOWANCE
 });
 
@@ -55,7 +55,7 @@ pub const WIDTH: Valued = Valued {
     value: "n",
     values: Values::Numbers(1, 1000),
     is_required: false,
-    help: "Number of cells of a row, from 1 to 1000 (default: what a terminal has room for, or 64)",
+    help: "Cells of a row, 1 to 1000 (default: what fits, or 64)",
 };
 
 /// The option `--svg`, the file for a drawing.
@@ -64,19 +64,19 @@ pub const SVG: Valued = Valued {
     value: "FILE",
     values: Values::Texts,
     is_required: false,
-    help: "Write the picture to this file as SVG, and print only the figures",
+    help: "Draw into this file as SVG, and print only the figures",
 };
 
 /// The option `--letters`.
 pub const LETTERS: Argument = Argument::Flag(
     "letters",
-    "Draw with letters even if the locale has block characters",
+    "Draw with letters even if the locale has blocks",
 );
 
 /// The option `--color`.
 pub const COLOR: Argument = Argument::Flag(
     "color",
-    "Use colours even if standard output is no terminal (or --color=WHEN: auto, always, never)",
+    "Use colours (or --color=WHEN: auto, always, never)",
 );
 
 /// The option `--no-color`.
@@ -97,7 +97,7 @@ pub const STATS: Argument = Argument::Flag("stats", "Print timings and peak memo
 /// The option `--progress`.
 pub const PROGRESS: Argument = Argument::Flag(
     "progress",
-    "Show progress even if standard error is no terminal (or --progress=WHEN: auto, always, never)",
+    "Show progress (or --progress=WHEN: auto, always, never)",
 );
 
 /// The option `--verbose`.

@@ -46,7 +46,7 @@ const ABOUT: &str = "Parallel mark-compact collection of heap images";
 const STATUSES: &str = "\
 Exit status:
   0  success, also of help and version
-  1  a fault, images that differ, a bad dump or a bad text; standard error says which
+  1  a fault, images that differ, a bad dump or text; standard error says which
   2  invalid usage; standard error says why";
 
 /// The definition of the program and its commands.

@@ -8,7 +8,7 @@ ghost use Rattle.command_line.specs.declared.unread.Unread.TheVariants.{Memory};
 use crate::commands;
 use crate::request::Request;
 use crate::unread::Unread;
-use crate::usage_text::usage_text;
+use crate::usage_text::{help_text, usage_text};
 use clap::Error;
 use clap::error::ErrorKind;
 use std::alloc::Global;
@@ -42,6 +42,6 @@ fn interpret_error<'a>(alloc: Global, error: &Error) -> Result<Request<'a>, Unre
     if error.use_stderr() {
         Err(Unread::Usage(usage_text(alloc, text.as_str())?))
     } else {
-        Ok(Request::Show(text))
+        Ok(Request::Show(help_text(alloc, text.as_str())?))
     }
 }

@@ -1,5 +1,5 @@
-//! The texts of usage errors: those of `clap`, with what is wanted in place of how a number or a value is refused, and without tips
-//! that don't fit.
+//! The texts of help and of usage errors: those of `clap`, with usage in two lines where one is too long, with what is wanted in place
+//! of how a number or a value is refused, and without tips that don't fit.
 use std::alloc::{AllocError, Global};
 
 /// How `clap` refuses what isn't a whole number, at the end of a line.
@@ -13,6 +13,45 @@ const WANTED_VALUE: &str = "' found; auto, always or never is wanted";
 
 /// The first line about the word `version`, which is like `verify` to `clap`.
 const NO_VERSION: &str = "error: unrecognized subcommand 'version'\n";
+
+/// The most columns of a line of help.
+const COLUMNS: usize = 80;
+
+/// What a usage goes on behind where a line is full.
+const INDENT: &str = "       ";
+
+/// The text of help, of the one that `clap` makes.
+pub fn help_text(alloc: Global, text: &str) -> Result<String, AllocError> {
+    let mut folded = String::new(alloc);
+    for line in text.lines() {
+        if line.len() > COLUMNS && line.starts_with("Usage: ") {
+            push_folded(line, &mut folded)?;
+        } else {
+            folded.push_str(line)?;
+            folded.push_str("\n")?;
+        }
+    }
+    Ok(folded)
+}
+
+/// Appends the words of a line, and begins another before one that doesn't fit.
+fn push_folded(line: &str, folded: &mut String) -> Result<(), AllocError> {
+    let mut columns = 0;
+    for word in line.split(' ') {
+        let wanted = word.len().saturating_add(1).saturating_add(columns);
+        if columns > 0 && wanted > COLUMNS {
+            folded.push_str("\n")?;
+            folded.push_str(INDENT)?;
+            columns = INDENT.len();
+        } else if columns > 0 {
+            folded.push_str(" ")?;
+            columns += 1;
+        }
+        folded.push_str(word)?;
+        columns = columns.saturating_add(word.len());
+    }
+    folded.push_str("\n")
+}
 
 /// The text of a usage error, of the one that `clap` makes.
 pub fn usage_text(alloc: Global, text: &str) -> Result<String, AllocError> {

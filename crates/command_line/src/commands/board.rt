@@ -14,7 +14,7 @@ Example:
 /// The definition of `board`.
 pub const DEFINITION: Definition = Definition {
     name: "board",
-    about: "Schedule three regions among two workers, and count claims and completions",
+    about: "Schedule three regions among two workers, and count claims",
     example: EXAMPLE,
     arguments: &[Argument::Flag(
         "steps",

@@ -45,7 +45,7 @@ const WORDS: Argument = Argument::Valued(Valued {
     value: "n",
     values: Values::LargeNumbers(1, 68_719_476_736),
     is_required: true,
-    help: "Number of words of the heap, a multiple of 2^k and at most 68719476736",
+    help: "Words of the heap, a multiple of 2^k, at most 2^36",
 });
 
 /// The option `--live`, the percentage of live words.
@@ -54,7 +54,7 @@ const LIVE: Argument = Argument::Valued(Valued {
     value: "share",
     values: Values::Numbers(0, 100),
     is_required: true,
-    help: "Percentage of the words that belongs to live objects, 0 to 100",
+    help: "Percentage of words in live objects, 0 to 100",
 });
 
 /// The option `--seed`.
@@ -63,7 +63,7 @@ const SEED: Argument = Argument::Valued(Valued {
     value: "s",
     values: Values::LargeNumbers(0, u64::MAX),
     is_required: true,
-    help: "A number of 64 bits; the same seed gives the same bytes everywhere",
+    help: "A number of 64 bits; the same seed gives the same bytes",
 });
 
 /// The option `--refs`, the percentage of references.
@@ -72,7 +72,7 @@ const REFERENCES: Argument = Argument::Valued(Valued {
     value: "share",
     values: Values::Numbers(0, 100),
     is_required: false,
-    help: "Percentage of the words after the headers that are references, 0 to 100 (default 25)",
+    help: "Percentage of references after headers (default 25)",
 });
 
 /// The option `--version`, the version of the image.
@@ -81,7 +81,7 @@ const VERSION: Argument = Argument::Valued(Valued {
     value: "v",
     values: Values::Numbers(1, 3),
     is_required: false,
-    help: "Version of the image, from 1 to 3: 1 lists the live objects (default 2, or 3 for a larger heap)",
+    help: "Image version, from 1 to 3 (default 2, larger heaps 3)",
 });
 
 /// The arguments of `generate`.

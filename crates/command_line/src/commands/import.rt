@@ -50,7 +50,7 @@ const VERSION: Argument = Argument::Valued(Valued {
     value: "v",
     values: Values::Numbers(2, 3),
     is_required: false,
-    help: "Version of the image, from 2 to 3 (default 2, or 3 for a larger heap)",
+    help: "Image version, from 2 to 3 (default 2, larger heaps 3)",
 });
 
 /// The option `--classes`, the file for a list of objects.
@@ -59,7 +59,7 @@ const CLASSES: Argument = Argument::Valued(Valued {
     value: "FILE",
     values: Values::Texts,
     is_required: false,
-    help: "List each object's address, class and bytes, and whether it is live",
+    help: "List each object: address, class, bytes, live or dead",
 });
 
 /// The option `--histogram`, the number of classes to print.

@@ -43,7 +43,7 @@ const HEIGHT: Argument = Argument::Valued(Valued {
     value: "n",
     values: Values::Numbers(1, 100),
     is_required: false,
-    help: "Number of rows, from 1 to 100 (default: 1, or what a terminal has room for, or 8 of a drawing)",
+    help: "Rows, 1 to 100 (default: what fits, or 1; 8 in SVG)",
 });
 
 /// The arguments of `map`.

@@ -27,7 +27,7 @@ pub const DEFINITION: Definition = Definition {
         WORKERS,
         Argument::Flag(
             "turns",
-            "Let workers take turns, so that each has some of the work",
+            "Let workers take turns, so that each has some work",
         ),
         Argument::Valued(REGION_LOG),
         Argument::Valued(ALLOWANCE),

@@ -22,7 +22,7 @@ pub const DEFINITION: Definition = Definition {
         IMAGE,
         Argument::Flag(
             "heading",
-            "Print the names of the columns even if standard output is no terminal",
+            "Print column names even if output is no terminal",
         ),
         Argument::Valued(REGION_LOG),
         Argument::Valued(ALLOWANCE),

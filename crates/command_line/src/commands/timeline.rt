@@ -26,11 +26,11 @@ pub const DEFINITION: Definition = Definition {
         IMAGE,
         SCHEDULE,
         Argument::Valued(Valued {
-            help: "Number of cells of a lane, from 1 to 1000 (default: what a terminal has room for, or 64)",
+            help: "Cells of a lane, 1 to 1000 (default: what fits, or 64)",
             ..WIDTH
         }),
         Argument::Valued(Valued {
-            help: "Write the lanes to this file as SVG, and print only the figures",
+            help: "Draw into this file as SVG, and print only the figures",
             ..SVG
         }),
         HTML,
@@ -50,7 +50,7 @@ const HTML: Argument = Argument::Valued(Valued {
     value: "FILE",
     values: Values::Texts,
     is_required: false,
-    help: "Write a page to this file that steps through the schedule, and print only the figures",
+    help: "Write a page of the schedule, and print only the figures",
 });
 
 /// The arguments of `timeline`.

@@ -18,7 +18,7 @@ Example:
 /// The definition of `upgrade`.
 pub const DEFINITION: Definition = Definition {
     name: "upgrade",
-    about: "Convert a heap image to version 2, which has roots, or 3, which may be larger",
+    about: "Convert a heap image to version 2 or 3, with roots",
     example: EXAMPLE,
     arguments: &[
         IMAGE,

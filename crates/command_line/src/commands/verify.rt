@@ -23,15 +23,15 @@ pub const DEFINITION: Definition = Definition {
         Argument::File("AFTER", "The image to compare with its compaction"),
         Argument::Flag(
             "explain",
-            "Say which words differ, in which objects, and where wrong references lead",
+            "Say which words differ and where references lead",
         ),
         Argument::Flag("ignore-free", "Don't compare the words above the top"),
         Argument::Valued(Valued {
-            help: "Read BEFORE as if its regions had 2^k words, k from 3 to 20",
+            help: "Read BEFORE with regions of 2^k words, k from 3 to 20",
             ..REGION_LOG
         }),
         Argument::Valued(Valued {
-            help: "Read BEFORE as if its dense prefix might keep m dead words",
+            help: "Read BEFORE as if its prefix might keep m dead words",
             ..ALLOWANCE
         }),
         JSON,
