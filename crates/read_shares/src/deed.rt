@@ -5,6 +5,7 @@ ghost use Rattle.read_shares.specs.Parts.{all_parts};
 ghost use Rattle.read_shares.specs.Deed.{deed_owns};
 
 use crate::share::ReadShare;
+use crate::term::Term;
 use std::alloc::Allocator;
 use std::marker::{Model, Send, Sync};
 
@@ -34,6 +35,20 @@ pub fn share_out<T: Drop, A: Allocator>(whole: Box<T, A>) -> (Deed<T, A>, ReadSh
     ensures all { result.1.parts ≡ all_parts }
     ensures alloc { result.0.alloc ≡ box_allocator whole }
 {
+    share_out_for(Term::new(), whole)
+}
+
+/// Shares a value out for this term. The share has all parts of it.
+pub fn share_out_for<T: Drop, A: Allocator>(
+    term: Term,
+    whole: Box<T, A>,
+) -> (Deed<T, A>, ReadShare<T>)
+    ensures value { (result.0.value ≡ whole.value) × (result.1.value ≡ whole.value) }
+    ensures same { (result.0.origin ≡ term.origin) × (result.1.origin ≡ term.origin) }
+    ensures all { result.1.parts ≡ all_parts }
+    ensures alloc { result.0.alloc ≡ box_allocator whole }
+{
+    let Term {} = term;
     let (at, alloc) = Box::into_raw_with_allocator(whole);
     (Deed { at, alloc }, ReadShare { at })
 }

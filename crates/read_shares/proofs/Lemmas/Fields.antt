@@ -1,8 +1,9 @@
--- A share as the machine stores it: a struct of one pointer. Assumes `Logic`.
+-- A share and a term as the machine stores them: a share is a struct of one pointer. Assumes `Logic`.
 --     word, Field      the machine value, and its type without what a share owns
 --     made      the field is made of nothing
 --     shows_at      a `&` to it shows the pointer
 --     typed      a pointer into a block has its type
+--     Marker, marked      a term is a struct of no fields, which is made of nothing
 use Rattle.std.proofs.Common.{ℕ, ◌+◌, T, [], ◌∷◌, refl}
 use seplogic.Ra.Ura.{Ura}
 use base.Fml.{Lft}
@@ -20,6 +21,7 @@ use denote.Shadow.{pure_i}
 use denote.Struct.Owning.{shape}
 use denote.Struct.Struct.{Struct, Struct-row_laws}
 use Rattle.read_shares.specs.contracts.share.ReadShare as share
+use Rattle.read_shares.specs.contracts.term.Term as term
 
 abbrev pub word : Ptr → Val
 word p = vstruct (vcons (ptr_val p) vnil)
@@ -43,3 +45,9 @@ module _ (R : RattleType) where
     pub shows_at : (κ : Lft) (b o : ℕ) → ent 𝓤 (sem 𝓛 (hidden_shr Field κ (p, tt) b o)) (sep 𝓤 (sem 𝓛 (hidden_shr RawPtr κ p b (o + 0))) (sem 𝓛 (hidden_shr Field κ (p, tt) b o)))
     shows_at κ b o = qed 𝓛 (‵ (hidden_shr Field κ (p, tt) b o) ∷ []) ∵
         shr_dup ! Field (Struct-row_laws (shape (share.the_type R)) (ptr_row_laws, tt)) (p, tt) b o κ $ unhide ! $ fsplit ! $ fsplit ! $ hide ! $ keep ! (0 ∷ 3 ∷ []) $ done !
+
+abbrev pub Marker : RattleType
+Marker = Struct (shape term.the_type)
+
+pub marked : {M : Type 1} {𝓤 : Ura M} (𝓛 : Logic 𝓤) → ent 𝓤 (emp 𝓤) (sem 𝓛 (Marker.own_val tt (vstruct vnil ∷ [])))
+marked 𝓛 = qed 𝓛 [] ∵ pure_i ! (Marker.own_val tt (vstruct vnil ∷ [])) (λ vss. (tt, tt)) (tt, (refl, tt)) $ done !

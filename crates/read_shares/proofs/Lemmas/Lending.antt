@@ -1,12 +1,13 @@
 -- A value is shared out and comes back, and a share is lent. Assumes `Logic`; t is what a `&` to the value holds.
---     shares_out, comes_back      the value is lent for a new lifetime;  all parts of its token end that
+--     begins      a new lifetime, and all of its token
+--     shares_out, comes_back      the value is lent for a lifetime;  all parts of its token end that
 --     Lends_share, lent_laws      the law of a `&` to a share
 --     shown      a `&` to a share is a `&` to its value
 --     lies, packed      the value isn't at null;  a share is made of its parts
 use Rattle.std.proofs.Common.{ℕ, [], ◌∷◌}
 use seplogic.Ra.Ura.{Ura}
 use base.Fraction.{full_share}
-use base.Logic.{ent, sep, wand, apply∗}
+use base.Logic.{ent, sep, emp, wand, apply∗}
 use base.Fml.{Lft, Share, Fml, Incl, Incl-trans, ftrue, fsep, fex, fbor, flft, flent}
 use contract.BorrowLft.{meet_⊑_left, meet_⊑_right}
 use types.Logic.{Logic, sem, lfts}
@@ -23,7 +24,11 @@ use denote.Struct.Lending.{Lends, Lends-both, Lends-first, in_block_says, lent_a
 use Rattle.read_shares.specs.Fraction.{fraction}
 use Rattle.read_shares.specs.Parts.{IsSome, all_parts}
 use Rattle.read_shares.specs.ReadShare.{share_owns, term}
+use Rattle.read_shares.specs.Term.{term_owns}
 use Rattle.read_shares.proofs.Lemmas.Tokens.{is_all, is_whole}
+
+pub begins : {M : Type 1} {𝓤 : Ura M} (𝓛 : Logic 𝓤) → ent 𝓤 (emp 𝓤) (𝓛.H.⇛ (sem 𝓛 (fex ℕ term_owns)))
+begins 𝓛 = qed 𝓛 [] ∵ updating ! $ lft_new ! tt (λ n. fpack ! ℕ term_owns n $ now ! $ done !)
 
 module _ (t : Lft → Fml) (L : ShrLaws t) where
   abbrev pub Part : ℕ → ℕ → Fml
@@ -62,14 +67,14 @@ module _ (t : Lft → Fml) (L : ShrLaws t) where
       abbrev pub Out : ℕ → Fml
       Out n = fsep (flent (term n) P) (Part n all_parts)
 
-      pub shares_out : (l μ : Lft) (q : Share) → Lends 𝓛 P t l → Incl μ l → ent 𝓤 (sep 𝓤 (sem 𝓛 P) (A.lft μ q)) (H.⇛ (sep 𝓤 (sem 𝓛 (fex ℕ Out)) (A.lft μ q)))
-      shares_out l μ q lends inc = qed 𝓛 (‵ P ∷ ‵ (flft μ q) ∷ []) ∵ updating ! $ lft_new ! tt (λ n.
-          -- [the token; the value; the other token]
+      pub shares_out : (n : ℕ) (l μ : Lft) (q : Share) → Lends 𝓛 P t l → Incl μ l
+          → ent 𝓤 (sep 𝓤 (sem 𝓛 (term_owns n)) (sep 𝓤 (sem 𝓛 P) (A.lft μ q))) (H.⇛ (sep 𝓤 (sem 𝓛 (Out n)) (A.lft μ q)))
+      shares_out n l μ q lends inc = qed 𝓛 (‵ (term_owns n) ∷ ‵ P ∷ ‵ (flft μ q) ∷ []) ∵ updating ! $
           move ! (1 ∷ []) $ bor_new ! tt (term n) $ move ! (2 ∷ 3 ∷ []) $ join ! $ move ! (1 ∷ 0 ∷ []) $
           use2 𝓛 (later (‵ (t (term n)) ⊛ ‵ (flft (term n) full_share) ⊛ ‵ (flft μ q)))
           (lends (term n) ((term n, full_share) ∷ (μ, q) ∷ []) (Incl-trans (meet_⊑_right (term n) μ) inc) (meet_⊑_left (term n) μ)) $ await ! tt $ split3 ! $
           -- [what is held; the token; the other token; the lender's right]
-          move ! (1 ∷ []) $ use1 𝓛 (‵ (flft (term n) (fraction all_parts))) (is_all 𝓛 n) $ fjoin ! $ move ! (2 ∷ 0 ∷ []) $ fjoin ! $ fpack ! ℕ Out n $ now ! $ done !)
+          move ! (1 ∷ []) $ use1 𝓛 (‵ (flft (term n) (fraction all_parts))) (is_all 𝓛 n) $ fjoin ! $ move ! (2 ∷ 0 ∷ []) $ fjoin ! $ now ! $ done !
 
       pub comes_back : (n : ℕ) → ent 𝓤 (sep 𝓤 (A.lft (term n) (fraction all_parts)) (sem 𝓛 (flent (term n) P))) (H.⇛ (sem 𝓛 P))
       comes_back n = qed 𝓛 (‵ (flft (term n) (fraction all_parts)) ∷ ‵ (flent (term n) P) ∷ []) ∵ updating ! $
