@@ -9,6 +9,7 @@ set -uo pipefail
 
 cd "$(dirname -- "$(readlink -f -- "$0")")/../.."
 . tests/support/callers.sh
+. tests/support/hosts.sh
 
 ocaml=$room/ocaml
 runtime=$ocaml/runtime/ocamlrun
@@ -17,20 +18,6 @@ compacting=$ocaml/runtime/ocamlrun-pcompact
 often=O=0,s=512,h=60k,i=4k,o=5
 # No program of the test suite begins once so many seconds of a processor are used.
 budget=480
-slides=0
-all_slides=0
-
-# Fetches the package into the room, by lists of its own: those of the machine stay as they are. Prints the archive's path.
-fetch() {
-    local types=/etc/apt/sources.list.d/debian.sources apt
-    command -v apt-get >/dev/null && [ -f "$types" ] || return
-    mkdir -p "$room/apt/lists/partial" "$room/apt/archives/partial"
-    sed 's/^Types: deb$/Types: deb-src/' "$types" >"$room/apt/debian.sources"
-    apt=(timeout 120 apt-get -q -o "Dir::Etc::sourcelist=$room/apt/debian.sources" -o Dir::Etc::sourceparts=-
-        -o "Dir::State::lists=$room/apt/lists" -o "Dir::Cache=$room/apt" -o Acquire::Retries=1)
-    (cd "$room/apt" && "${apt[@]}" update && "${apt[@]}" source --download-only ocaml) >"$room/said" 2>&1 || return
-    find "$room/apt" -name 'ocaml_4.13.*.orig.tar.*'
-}
 
 # Builds what runs bytecode and the standard library, by the compiler that comes as bytecode.
 build_ocaml() (
@@ -68,34 +55,14 @@ run_plainly() {
     echo "status $?" >>"$room/plain-errors"
 }
 
-# Runs it with compactions by so many workers, and these words in OCAMLRUNPARAM. Sets `slides` to how often the library slid the
-# heap, and takes what told so out of the output. A minute of a processor ends it with status 152.
+# Runs it with compactions by so many workers, and these words in OCAMLRUNPARAM. A minute of a processor ends it with status 152.
 run_compacting() {
     local workers=$1 parameters=v=0x1000,$2
     shift 2
     (cd "$room/here" && ulimit -St 60 && PCOMPACT_WORKERS=$workers OCAMLRUNPARAM=$parameters exec "$compacting" "$@") \
         >"$room/slid" 2>"$room/slid-errors" </dev/null
     echo "status $?" >>"$room/slid-errors"
-    slides=$(grep -c "Slid by libpcompact, $workers workers" "$room/slid-errors")
-    all_slides=$((all_slides + slides))
-    sed -zi 's/Slid by libpcompact, [0-9]* workers\n//g' "$room/slid-errors"
-}
-
-# Whether that printed what the unchanged runtime did.
-is_same() {
-    cmp "$room/plain" "$room/slid" && cmp "$room/plain-errors" "$room/slid-errors"
-}
-
-# Whether a run with compactions had some, and printed the same.
-is_same_slid() {
-    run_compacting "$@"
-    [ "$slides" -gt 0 ] && is_same
-}
-
-# Counts the compactions of a kind of program, and says how many there were.
-tell() {
-    echo "$1: $all_slides compactions by the library"
-    all_slides=0
+    take_slides "$workers"
 }
 
 # A program with all kinds of references, also in a heap above the 32 MiB of a live list.
@@ -172,10 +139,8 @@ try_suite() {
 }
 
 find_needs
-for tool in make ar; do command -v "$tool" >/dev/null || { skip "there is no $tool"; end; }; done
-archive=${1-$(fetch)}
-[ -f "$archive" ] || { skip "Debian's source package of OCaml 4.13 can't be fetched"; end; }
-try build_ocaml "$(readlink -f -- "$archive")"
+find_sources "${1-}" ocaml 'ocaml_4.13.*.orig.tar.*' 'OCaml 4.13'
+try build_ocaml "$archive"
 [ "$failed" = 0 ] && try build_compacting
 [ "$failed" = 0 ] || end
 mkdir "$room/here"
