@@ -183,11 +183,29 @@ pcompact_fault pcompact_begin_in_place_rooted(uint64_t *words, size_t word_count
 
 /* What pcompact_work returns. */
 enum {
-    PCOMPACT_SETTLED = 0,    /* all regions are filled */
+    PCOMPACT_SETTLED = 0,    /* all regions are filled, or all slots redirected */
     PCOMPACT_TURNS_USED = 1, /* the turns are used up */
     PCOMPACT_NONE_READY = 2, /* no region is ready: another worker may make some ready, and want this processor for it */
     PCOMPACT_NOT_HELD = 5    /* the handle isn't held */
 };
+
+/* Where the collection of a handle takes the word at this address, the first of its object or not; known from its begin to its end.
+ * UINT64_MAX if no live object has such a word, or the handle isn't held. Takes no memory. `handle` isn't null. */
+uint64_t pcompact_new_address(pcompact_handle *handle, uint64_t address);
+
+/* How a host's slots lead to words of its heap: a slot leads to the word at address a if it is `base` plus 2 ^ `unit` times a. For
+ * machine pointers into one row of words `base` is the address of the first and `unit` is 3. Only the low 6 bits of it count. */
+typedef struct pcompact_slot_coding {
+    uint64_t base;
+    uint64_t dead; /* what takes the place of a slot that leads to a word that no live object has */
+    uint32_t unit;
+} pcompact_slot_coding;
+
+/* Redirects slots that are kept outside of the heap, such as a host's roots and weak tables: each that leads to a word of the heap
+ * leads to where the collection of the handle takes the word, or becomes `dead`. All others stay. Returns PCOMPACT_SETTLED, or
+ * PCOMPACT_NOT_HELD, and then all stay. Takes no memory. No pointer is null, also with a count of 0, nothing overlaps the slots, and
+ * nobody reads or writes them meanwhile. */
+uint32_t pcompact_redirect(pcompact_handle *handle, uint64_t *slots, size_t slot_count, pcompact_slot_coding coding);
 
 /* Fills regions that are ready by the worker of a handle, at most `turns`. Returns how far the work has come. Takes no memory
  * and never waits. `handle` isn't null. */

@@ -142,7 +142,7 @@ def named_in(helps: dict[str, list[str]]) -> dict[str, Callable[[str, str], bool
 
     def in_zsh(name: str, option: str) -> bool:
         words = part(zsh, f"\n  {name})\n", ";;") if name else part(zsh, "_arguments -C", "&& ret=0")
-        return re.search(rf"['{{,]{option}[=\[,}}]", words) is not None
+        return re.search(rf"['{{,]{option}\+?[=\[,}}]", words) is not None
 
     def in_fish(name: str, option: str) -> bool:
         form = f"-s {option[1:]}" if len(option) == 2 else f"-l {option[2:]}"

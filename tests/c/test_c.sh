@@ -61,6 +61,7 @@ build calls -Itests/c tests/c/{calls,checks}.c
 build image_calls -Itests/c tests/c/{image_calls,checks,refusing_heap}.c
 build lent -Itests/c tests/c/{lent,refusing_heap}.c
 build ends -Itests/c tests/c/{ends,refusing_heap}.c
+build places -Itests/c tests/c/{places,checks}.c
 for caller in threads lent_threads in_place; do
     build "$caller" -pthread -Itests/c tests/c/{"$caller",refusing_heap}.c
     build_c "$caller-raced" -g -fsanitize=thread -pthread -Itests/c tests/c/{"$caller",refusing_heap}.c
@@ -73,6 +74,7 @@ done
 run hostile
 run refusals
 run ends
+run places
 try "$room/lent" 1000
 run lent 100
 for caller in threads lent_threads in_place; do

@@ -2,3 +2,4 @@ pub mod Collected
 pub mod HeapWords
 pub mod Lent
 pub mod Parts
+pub mod Slots

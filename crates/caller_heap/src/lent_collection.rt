@@ -60,8 +60,7 @@ pub fn collect_lent_words(
 /// then none is held.
 ///
 /// The fault is 12 if there aren't 1 to 64 workers, or 11 if memory runs out. All words are held as they were then. No contract
-/// excludes fault 12 for another reason, as none follows whose memory a region has, or says that an image comes back: so none
-/// promises the words after it.
+/// excludes fault 12 for another reason, as none follows whose memory a region has: so none promises the words after it.
 pub fn begin_lent(
     alloc: Global,
     image: Image,
@@ -83,7 +82,8 @@ pub fn begin_lent(
             keep_image(words, image)?;
             Err(fault)
         }
-        Err(Refusal::Lost(_)) => Err(Fault::Workers),
+        // All memory is taken while the image is whole.
+        Err(Refusal::Lost(_)) => unreachable!(),
     }
 }
 

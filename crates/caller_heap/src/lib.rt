@@ -11,6 +11,7 @@ mod lent_collection;
 mod part;
 mod reading;
 mod settings;
+mod slots;
 
 pub use collection::{collect_words, put_tail, put_words};
 pub use heap_words::front_of;
@@ -19,3 +20,4 @@ pub use lent_collection::{begin_lent, collect_lent_words, end_lent_words, suits}
 pub use part::{Origin, Part, boxed_parts};
 pub use reading::image_of_heap;
 pub use settings::HeapSettings;
+pub use slots::{SlotCoding, redirect_slots};

@@ -13,3 +13,4 @@ pub mod Behind
 pub mod Stopping
 pub mod Regions
 pub mod Reversals
+pub mod Stakes

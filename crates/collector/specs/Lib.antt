@@ -4,4 +4,7 @@ pub mod Streams
 pub mod Records
 pub mod Rest
 pub mod Regions
+pub mod NewPlaces
+pub mod SessionIds
 pub mod Sessions
+pub mod Stakes

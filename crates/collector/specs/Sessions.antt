@@ -5,4 +5,4 @@ use Rattle.collector.specs.declared.session.share.Share.{Share}
 
 -- the image that the session of a share compacts
 abbrev pub image_of : Share → HeapImage
-image_of share = (arc_value share.session).shared.survey
+image_of share = (arc_value share.returned).image

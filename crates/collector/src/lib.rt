@@ -5,7 +5,8 @@
 //!   [`collect_stream`] does so from bytes to bytes.
 //! - [`collect_alone`] compacts an image in the caller's thread alone. It starts no thread, and never waits.
 //! - [`Session`] compacts an image by workers that run by calls: [`Session::prepare`] returns a
-//!   [`Share`] for each, [`Share::work`] fills regions, and [`Share::end`] returns the compaction.
+//!   [`Share`] for each, [`Share::new_place`] says where a word will go, [`Share::work`] fills regions, and [`Share::end`]
+//!   returns the compaction.
 //! - [`record`] collects as `collect` does, and returns the schedule of everything that the workers did.
 //!   [`record_stream`] does so from bytes to bytes.
 //! - [`Gate`] admits each fill and is notified of its completion. [`OpenGate`] refuses nothing.
@@ -50,6 +51,7 @@ pub use laws::an_upgrade_is_collected_alike;
 pub use outcome::{Figures, Outcome, Refusal};
 pub use ready_queues::{Ready, Thief};
 pub use session::Session;
+pub use session::new_place::NewPlace;
 pub use session::progress::Progress;
 pub use session::share::Share;
 pub use verification::{

@@ -8,9 +8,13 @@ ghost use Rattle.collector.specs.Collections.{figures_of, AreNoneOrTooMany, IfKe
 ghost use Rattle.collector.specs.declared.outcome.Refusal.TheVariants.{Kept};
 ghost use Rattle.collector.specs.Rest.{Rests};
 
-mod dealing;
+pub(crate) mod new_place;
 pub(crate) mod progress;
+mod returned_stakes;
+mod room;
+mod session_id;
 pub(crate) mod share;
+mod stake;
 
 use crate::collection::clean_up::clean_up;
 use crate::collection::compaction::Compaction;
@@ -22,11 +26,11 @@ use crate::workers::shared::Shared;
 use crate::workers::worker::Worker;
 use claim_board::{Pass, RegionBoard, Seat};
 use crossbeam_utils::Backoff;
-use dealing::shares_of;
 use heap_image::{Fault, Image, Version};
 use progress::Progress;
 use retry_policy::Tries;
-use scheduler::moves_of_images;
+use room::SessionRoom;
+use scheduler::{MAX_WORKERS, moves_of_images};
 use share::Share;
 use std::alloc::Global;
 use std::sync::atomic::AtomicUsize;
@@ -49,17 +53,22 @@ impl Session {
     /// Prepares the compaction of an image by 1 to 64 workers, and returns a share for each. Starts no thread, and never
     /// waits.
     ///
-    /// Returns `Kept` with fault 12 exactly if the number of workers, which is tested first, isn't 1 to 64, and with fault
-    /// 11 if memory runs out. No contract excludes that the image is lost to fault 11, as none says that nobody has claimed
-    /// a region before there are shares.
+    /// Returns `Kept` on failure, with fault 12 exactly if the number of workers, which is tested first, isn't 1 to 64, and
+    /// with fault 11 if memory runs out: all of it is taken before a region leaves the image.
     pub fn prepare(alloc: Global, image: Image, workers: u32) -> Result<Vec<Share>, Refusal>
         ensures count { IfOk result (λ shares. vec_len shares ≡ workers) }
         ensures image { IfOk result (λ shares. All (λ share. image_of share ≡ image) shares.items) }
         ensures kept { IfErr result (λ refusal. IfKept refusal
             (λ back fault. (back ≡ image) × ((fault ≡ Fault.Memory) ⊎ (fault ≡ Fault.Workers)))) }
         ensures workers { result ≡ Err (Kept image Fault.Workers) ↔ AreNoneOrTooMany workers }
-        ensures lost { IfErr result (λ refusal. IfLost refusal (λ fault. fault ≡ Fault.Memory)) }
+        ensures lost { IfErr result (λ refusal. IfLost refusal (λ _. ⊥)) }
     {
+        if workers == 0 || workers > MAX_WORKERS {
+            return Err(Refusal::Kept(image, Fault::Workers));
+        }
+        let Ok(room) = SessionRoom::new(alloc, &image, workers) else {
+            return Err(Refusal::Kept(image, Fault::Memory));
+        };
         let numbers = numbers_of(&image);
         let compaction = Compaction::<RegionBoard>::prepare(alloc, image, workers, &Alone)?;
         let session = Session {
@@ -67,7 +76,7 @@ impl Session {
             numbers,
             presented: AtomicUsize::new(0),
         };
-        shares_of(alloc, session, compaction.workers)
+        Ok(room.deal(session, compaction.workers))
     }
 
     /// The image, if no region was claimed.

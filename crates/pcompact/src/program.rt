@@ -388,12 +388,12 @@ fn show<A: Write>(text: &[u8], out: &mut A) -> io::Result<()>
     out.flush()
 }
 
-/// Prints to `err` why the program fails, with details if there are the names of files for these, and returns the exit
-/// status: 2 for wrong usage, else 1. The status doesn't depend on whether the writes succeed.
+/// Prints to `err` why the program fails, with details if there are the names of files for these and that was written, and
+/// returns the exit status: 2 for wrong usage, else 1. The status doesn't depend on whether the writes succeed.
 pub fn report<B: Write>(trouble: &Trouble, named: Option<NamedFiles<'_>>, err: &mut B) -> u8
     ensures { result ≡ status_of trouble.now.failure }
 {
-    let _ = match &trouble.failure {
+    let written = match &trouble.failure {
         Failure::Usage(text) => err.write_all(text.as_bytes()),
         Failure::Fault(fault) => writeln!(err, "pcompact: fault {fault}"),
         Failure::Differs(difference) => writeln!(err, "pcompact: differs {difference}"),
@@ -408,7 +408,7 @@ pub fn report<B: Write>(trouble: &Trouble, named: Option<NamedFiles<'_>>, err: &
             )
         }
     };
-    if let Some(named) = named {
+    if let (Ok(()), Some(named)) = (written, named) {
         let _ = trouble.print_details(named, err);
     }
     let _ = err.flush();

@@ -1,5 +1,5 @@
 -- What a host's handle owns, and what contracts see of it.
-use Rattle.std.specs.Prelude.{◌≡◌, ◌≤◌, ◌⊎◌, ℕ, List, ◌++◌, ◌∷◌, [], All, Bool, false, Option, Some, None, length, map, option_map}
+use Rattle.std.specs.Prelude.{◌≡◌, ◌≤◌, ◌⊎◌, ℕ, List, ◌++◌, ◌∷◌, [], All, Bool, false, Option, Some, None, length, map, option_map, option_and_then}
 use Rattle.std.specs.Ptr.{Ptr}
 use Rattle.std.specs.Coded.{coded_option}
 use Rattle.std_heap.specs.contracts.GlobalAllocator.TheImpl.{ghosts}
@@ -31,7 +31,7 @@ Handle = Bool × Ptr × Option Part
 
 -- the share of a handle's part
 abbrev pub share_in : Handle → Option Share
-share_in handle = option_map (λ (part : Part). part.share) handle.2
+share_in handle = option_and_then (λ (part : Part). part.share) handle.2
 
 -- the image that the collection of a handle's part compacts
 abbrev pub image_in : Handle → Option HeapImage

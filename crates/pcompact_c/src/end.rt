@@ -134,21 +134,24 @@ fn room_for(alloc: Global, count: usize) -> Result<Vec<Share>, Fault>
     Ok(Vec::with_capacity(alloc, count)?)
 }
 
-/// The shares so far, if there was no fault, and that of one more part. No part is fault 12.
+/// The shares so far, if there was no fault, and that of one more part. No part, or one without a share, is fault 12.
 fn with_share(
     taken: Result<Vec<Share>, Fault>,
     part: Option<Box<Part, Global>>,
 ) -> Result<Vec<Share>, Fault>
     requires fault { IfErr taken (λ fault. (fault ≡ Memory) ⊎ (fault ≡ Workers)) }
     ensures shares { IfOk result (λ all. MatchResult taken
-        (λ so_far. MatchOption part ⊥ (λ more. all.items ≡ so_far.items ++ more.value.share ∷ [])) (λ _. ⊥)) }
+        (λ so_far. MatchOption part ⊥ (λ more. map Some all.items ≡ map Some so_far.items ++ more.value.share ∷ [])) (λ _. ⊥)) }
     ensures fault { IfErr result (λ fault. (fault ≡ Memory) ⊎ (fault ≡ Workers)) }
 {
     let mut shares = taken?;
     let Some(part) = part else {
         return Err(Fault::Workers);
     };
-    shares.push(Box::into_inner(part).share)?;
+    let Some(share) = Box::into_inner(part).share else {
+        return Err(Fault::Workers);
+    };
+    shares.push(share)?;
     Ok(shares)
 }
 

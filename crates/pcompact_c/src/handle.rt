@@ -1,11 +1,11 @@
 //! A worker's part in a collection, as a host keeps it.
-ghost use Rattle.std.specs.Prelude.{◌≡◌, true, false, IsTrue, Some, None, Option, MatchOption, is_some};
+ghost use Rattle.std.specs.Prelude.{◌≡◌, true, false, IsTrue, Some, None, Option, MatchOption, is_some, map};
 ghost use Rattle.caller_heap.specs.declared.part.Part.{Part};
 ghost use Rattle.pcompact_c.specs.Handles.{parts_coded};
 
 use crate::raw_box::RawBox;
-use caller_heap::{Origin, Part, suits};
-use collector::Progress;
+use caller_heap::{Origin, Part, SlotCoding};
+use collector::{NewPlace, Progress};
 use std::alloc::Global;
 use std::marker::{Model, Send};
 use std::mem;
@@ -43,7 +43,10 @@ impl Model for PcompactHandle {
 unsafe impl Send for PcompactHandle {}
 
 impl PcompactHandle {
+    ghost use Rattle.object_heap.specs.HeapImage.{HeapImage};
+    ghost use Rattle.caller_heap.specs.Slots.{redirected_slot};
     ghost use Rattle.pcompact_c.specs.Handles.{image_in, origin_in};
+    ghost use Rattle.pcompact_c.specs.Places.{IsNewAddress};
 
     /// A handle without a part: all zeros.
     fn empty() -> PcompactHandle
@@ -126,7 +129,7 @@ impl PcompactHandle {
         let Some(part) = self.leave(alloc) else {
             return false;
         };
-        part.share.count_in();
+        part.count_in();
         let is_from = part.origin == origin;
         self.enter(part);
         is_from
@@ -137,7 +140,7 @@ impl PcompactHandle {
         ensures { self.new.2 ≡ self.old.2 }
     {
         if let Some(part) = self.leave(alloc) {
-            part.share.count_out();
+            part.count_out();
             self.enter(part);
         }
     }
@@ -149,7 +152,7 @@ impl PcompactHandle {
         let Some(part) = self.leave(alloc) else {
             return false;
         };
-        let are_all = part.share.are_all_counted(shares);
+        let are_all = part.are_all_counted(shares);
         self.enter(part);
         are_all
     }
@@ -161,9 +164,38 @@ impl PcompactHandle {
         let Some(part) = self.leave(alloc) else {
             return false;
         };
-        let it_suits = suits(&part.share, regions, numbers);
+        let it_suits = part.suits(regions, numbers);
         self.enter(part);
         it_suits
+    }
+
+    /// Where the collection takes the word at this address, if a live object has it. `None` also if the handle isn't held.
+    pub(crate) fn new_address(&mut self, alloc: Global, address: u64) -> Option<u64>
+        ensures part { self.new.2 ≡ self.old.2 }
+        ensures address { (image : HeapImage) → image_in self.old ≡ Some image → IsNewAddress image address result }
+        ensures not_held { self.old.2 ≡ None → result ≡ None }
+    {
+        let part = self.leave(alloc)?;
+        let place = part.new_place(address);
+        self.enter(part);
+        match place {
+            NewPlace::At(to) => Some(to),
+            NewPlace::Outside | NewPlace::NotLive => None,
+        }
+    }
+
+    /// Redirects slots to where the collection takes what they lead to. Returns whether the handle is held.
+    pub(crate) fn redirect(&mut self, alloc: Global, slots: &mut [u64], coding: SlotCoding) -> bool
+        ensures part { self.new.2 ≡ self.old.2 }
+        ensures slots { (image : HeapImage) → image_in self.old ≡ Some image → (slots.new ≡ map (redirected_slot image coding) slots.old) × (result ≡ true) }
+        ensures not_held { image_in self.old ≡ None → (slots.new ≡ slots.old) × (result ≡ false) }
+    {
+        let Some(part) = self.leave(alloc) else {
+            return false;
+        };
+        let is_redirected = part.redirect(coding, slots);
+        self.enter(part);
+        is_redirected
     }
 
     /// Lets the worker fill regions that are ready, at most `turns`. Returns `None` if the handle isn't held.
@@ -173,7 +205,7 @@ impl PcompactHandle {
         ensures held { MatchOption result (self.old.2 ≡ None) (λ _. is_some self.old.2 ≡ true) }
     {
         let mut part = self.leave(alloc)?;
-        let progress = part.share.work(turns);
+        let progress = part.work(turns);
         self.enter(part);
         Some(progress)
     }
@@ -185,7 +217,7 @@ impl PcompactHandle {
         ensures held { MatchOption result (self.old.2 ≡ None) (λ _. is_some self.old.2 ≡ true) }
     {
         let mut part = self.leave(alloc)?;
-        part.share.work_all();
+        part.work_all();
         self.enter(part);
         Some(())
     }

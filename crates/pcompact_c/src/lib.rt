@@ -18,6 +18,7 @@ mod end;
 mod fault;
 mod fault_text;
 mod handle;
+mod places;
 mod plan;
 mod raw_box;
 mod references;
@@ -27,7 +28,7 @@ mod work;
 
 pub use answer::PcompactAnswer;
 pub use begin::PcompactLentSettings;
-pub use caller_heap::HeapSettings as PcompactSettings;
+pub use caller_heap::{HeapSettings as PcompactSettings, SlotCoding as PcompactSlotCoding};
 pub use decode::PcompactHeap;
 pub use fault::PcompactFault;
 pub use handle::PcompactHandle;

@@ -6,44 +6,63 @@ ghost use Rattle.summary.specs.Compaction.{compact};
 ghost use Rattle.claim_board.specs.Boards.{board_of};
 ghost use Rattle.claim_board.specs.RegionBoards.{identity};
 ghost use Rattle.collector.specs.Collections.{figures_of};
+ghost use Rattle.collector.specs.NewPlaces.{IsNewPlace};
 ghost use Rattle.collector.specs.Rest.{Rests};
+ghost use Rattle.collector.specs.Stakes.{IsStake};
 
 use super::Session;
-use super::dealing::image_of_last;
+use super::new_place::{NewPlace, place_in};
 use super::progress::Progress;
+use super::returned_stakes::ReturnedStakes;
+use super::stake::{SessionDeed, Stake};
 use crate::outcome::Outcome;
 use crate::workers::worker::Worker;
+use claim_board::Pass;
 use crossbeam_utils::Backoff;
 use heap_image::{Fault, Image};
+use read_shares::ReadShare;
 use std::alloc::Global;
 use std::sync::Arc;
 use std::sync::atomic::Ordering;
 
-/// One worker's part in a session, which one thread at a time may use.
-#[derive(Drop)]
+/// One worker's part in a session, which one thread at a time may use. The last share that is dropped frees the session.
 pub struct Share {
-    pub(crate) session: Arc<Session, Global>,
+    session: ReadShare<Option<Session>>,
+    lead: Option<SessionDeed>,
     worker: Worker,
     number: u32,
-    ghost seat: { board_of worker.seat.pass ≡ identity (arc_value session).shared.desk },
-    ghost rest: { Rests worker.seat.pass },
-    ghost numbered: { number < vec_len (arc_value session).shared.thieves },
+    pub(crate) returned: Arc<ReturnedStakes, Global>,
+    ghost stake: { IsStake (arc_value returned) 1 session worker.seat.pass lead },
+    ghost numbered: { number < (arc_value returned).workers },
+}
+
+impl Drop for Share {
+    fn drop(self) {
+        drop(self.leave());
+    }
 }
 
 impl Share {
     ghost use Rattle.collector.specs.Sessions.{image_of};
 
-    /// The part of this worker, which has not begun.
-    pub(crate) fn new(session: Arc<Session, Global>, worker: Worker, number: u32) -> Share
-        requires seat { board_of worker.seat.pass ≡ identity (arc_value session).shared.desk }
-        requires rest { Rests worker.seat.pass }
-        requires numbered { number < vec_len (arc_value session).shared.thieves }
-        ensures { result.session ≡ session }
+    /// The part of the worker with this number, which has not begun. It will leave its stake there.
+    pub(crate) fn new(
+        session: ReadShare<Option<Session>>,
+        lead: Option<SessionDeed>,
+        worker: Worker,
+        number: u32,
+        returned: Arc<ReturnedStakes, Global>,
+    ) -> Share
+        requires stake { IsStake (arc_value returned) 1 session worker.seat.pass lead }
+        requires numbered { number < (arc_value returned).workers }
+        ensures { result.returned ≡ returned }
     {
         Share {
             session,
+            lead,
             worker,
             number,
+            returned,
         }
     }
 
@@ -52,7 +71,9 @@ impl Share {
     pub fn work(&mut self, turns: u64) -> Progress
         ensures { image_of self.new ≡ image_of self.old }
     {
-        let session: &Session = &self.session;
+        let Some(session) = self.session.get() else {
+            unreachable!();
+        };
         session.work(self.number, &mut self.worker, turns)
     }
 
@@ -78,12 +99,19 @@ impl Share {
         ensures figures { IfOk result (λ outcome. outcome.figures ≡ figures_of (image_of self)) }
         ensures fault { IfErr result (λ fault. fault ≡ Fault.Workers) }
     {
-        if self.session.shared.thieves.len() != others.len() + 1 {
+        if self.workers() != others.len() + 1 {
             return Err(Fault::Workers);
         }
         self.fill_rest();
         drop(others);
-        self.close()
+        let ended = match self.into_session() {
+            Some((session, pass)) => session.finish(pass),
+            None => None,
+        };
+        match ended {
+            Some(outcome) => Ok(outcome),
+            None => Err(Fault::Workers),
+        }
     }
 
     /// Returns the image of a session in which no region was claimed, by its last share. `None` if there are other shares, or
@@ -91,64 +119,102 @@ impl Share {
     pub fn give_back(self) -> Option<Image>
         ensures { IfSome result (λ image. image ≡ image_of self) }
     {
-        image_of_last(self.session)
+        let (session, _pass) = self.into_session()?;
+        session.into_image()
+    }
+
+    /// Where the session takes the word at this address, the first of its object or not. It is known from the beginning.
+    pub fn new_place(&self, address: u64) -> NewPlace
+        ensures { IsNewPlace (image_of self.now) address result }
+    {
+        place_in(&self.session().shared.survey, address)
     }
 
     /// How many regions the heap of the session has.
     pub fn regions(&self) -> u32
         ensures { result ≡ region_count (image_of self.now) }
     {
-        self.session.shared.survey.plan().regions()
+        self.session().shared.survey.plan().regions()
     }
 
     /// How many live addresses the session's image has in version 1, otherwise how many roots.
     pub fn numbers(&self) -> usize
         ensures { result ≡ length (with_tail (image_of self.now)).live }
     {
-        self.session.numbers
+        self.session().numbers
     }
 
     /// Counts this share as presented to end its session.
     pub fn count_in(&self) {
-        self.session.presented.fetch_add(1, Ordering::SeqCst);
+        self.session().presented.fetch_add(1, Ordering::SeqCst);
     }
 
     /// Takes this share out of that count.
     pub fn count_out(&self) {
-        self.session.presented.fetch_sub(1, Ordering::SeqCst);
+        self.session().presented.fetch_sub(1, Ordering::SeqCst);
     }
 
     /// Whether exactly `shares` shares are counted, and the session has no other.
     pub fn are_all_counted(&self, shares: usize) -> bool {
-        self.session.presented.load(Ordering::SeqCst) == shares
-            && self.session.shared.thieves.len() == shares
+        self.session().presented.load(Ordering::SeqCst) == shares && self.workers() == shares
+    }
+
+    /// The number of workers of the session.
+    fn workers(&self) -> usize {
+        self.session().shared.thieves.len()
+    }
+
+    fn session(&self) -> &Session
+        ensures image { result.now.shared.survey ≡ image_of self.now }
+    {
+        match self.session.get() {
+            Some(session) => session,
+            None => unreachable!(),
+        }
     }
 
     /// Fills what is left to fill, once no other share works.
     fn fill_rest(&mut self)
         ensures { image_of self.new ≡ image_of self.old }
     {
-        let session: &Session = &self.session;
+        let Some(session) = self.session.get() else {
+            unreachable!();
+        };
         session.fill_rest(self.number, &mut self.worker.seat);
     }
 
-    /// Ends the session whose last share this is.
-    fn close(self) -> Result<Outcome, Fault>
-        ensures image { IfOk result (λ outcome. outcome.image ≡ compact (image_of self)) }
-        ensures figures { IfOk result (λ outcome. outcome.figures ≡ figures_of (image_of self)) }
-        ensures fault { IfErr result (λ fault. fault ≡ Fault.Workers) }
+    /// The session whose last share this is, and a pass of its board.
+    fn into_session(self) -> Option<(Session, Pass)>
+        ensures image { IfSome result (λ r. r.0.shared.survey ≡ image_of self) }
+        ensures seated { IfSome result (λ r. board_of r.1 ≡ identity r.0.shared.desk) }
+        ensures rests { IfSome result (λ r. Rests r.1) }
+    {
+        match Arc::try_unwrap(self.leave()) {
+            Ok(returned) => returned.into_session(),
+            Err(_others) => None,
+        }
+    }
+
+    /// Leaves the stake of this share where those of the session come together.
+    fn leave(self) -> Arc<ReturnedStakes, Global>
+        ensures { result ≡ self.returned }
     {
         let Share {
             session,
+            lead,
             worker,
-            ..
+            number,
+            returned,
         } = self;
-        let Ok(session) = Arc::try_unwrap(session) else {
-            return Err(Fault::Workers);
-        };
-        match session.finish(worker.into_pass()) {
-            Some(outcome) => Ok(outcome),
-            None => Err(Fault::Workers),
-        }
+        let pass = worker.into_pass();
+        returned.put(
+            number,
+            Stake {
+                session,
+                pass,
+                lead,
+            },
+        );
+        returned
     }
 }

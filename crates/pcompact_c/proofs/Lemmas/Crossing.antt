@@ -1,11 +1,12 @@
 -- A part may go to another thread.
-use denote.Param.Send.{Frees, IsSend, IsSync, AllSend, AllSync, struct_send, struct_sync, recorded_send, recorded_sync, sendable}
+use denote.Param.Send.{Frees, IsSend, IsSync, AllSend, AllSync, struct_send, struct_sync, recorded_send, recorded_sync, part_keyless, sendable}
 use denote.Struct.Declared as declared
+use denote.RattleType.{RattleType}
 use denote.Struct.Struct.{Struct}
 use Rattle.std.proofs.Crossing as heap
+use Rattle.core.specs.contracts.option.Option as Option
 use Rattle.std.proofs.Crossing.{crosses}
 use Rattle.std_alloc.proofs.SendSync as boxes
-use Rattle.std_alloc.specs.contracts.arc.Arc as Arc
 use Rattle.std_alloc.specs.contracts.vec.Vec as Vec
 use Rattle.std_heap.specs.contracts.Global as Heap
 use Rattle.std_heap.specs.contracts.GlobalAllocator.TheImpl.{ghosts}
@@ -28,8 +29,22 @@ use Rattle.collector.specs.contracts.workers.held_region.HeldRegion as HeldRegio
 use Rattle.collector.specs.contracts.workers.end.End as End
 use Rattle.collector.specs.contracts.workers.worker.Worker as Worker
 use Rattle.collector.specs.contracts.session.Session as Session
+use Rattle.collector.specs.contracts.session.returned_stakes.ReturnedStakes as ReturnedStakes
+use Rattle.collector.specs.contracts.session.stake.SessionDeed as SessionDeed
+use Rattle.collector.specs.contracts.session.stake.Stake as Stake
 use Rattle.collector.specs.contracts.session.share.Share as Share
 use Rattle.collector.specs.contracts.workers.shared.Shared as Shared
+use Rattle.read_shares.specs.contracts.deed.Deed as Deed
+use Rattle.read_shares.specs.contracts.share.ReadShare as ReadShare
+use Rattle.read_shares.proofs.deed.Deed.TheSendSync as deed
+use Rattle.read_shares.proofs.share.ReadShare.TheSendSync as read
+use Rattle.counted_slot.proofs.Counted.TheSendSync as slot
+use Rattle.claim_board.specs.contracts.pass.Pass as Pass
+use Rattle.claim_board.proofs.pass.Pass.TheSendSync as pass
+use Rattle.claim_board.specs.contracts.regions.holding.Holding as Holding
+use Rattle.claim_board.specs.contracts.rule.view.View as View
+use Rattle.claim_board.proofs.regions.holding.Holding.TheSendSync as holding
+use Rattle.atomic_table.proofs.shared.Seat.TheSendSync as seats
 use Rattle.caller_heap.specs.contracts.part.Part as Part
 use Rattle.caller_heap.proofs.part.Origin.TheSendSync as origin
 
@@ -70,8 +85,59 @@ session_sync =
     let all : AllSync (declared.fields T) = (shared_sync, (search sendable, (search (crosses, sendable), tt))) in
     recorded_sync (Struct (declared.shape T)) T.D T.to T.to_one (struct_sync (declared.shape T) all)
 
-session_shared : IsSend (Arc.the_row Session.the_row Heap.the_row ghosts)
-session_shared = heap.Arc-send Session.the_row session_send session_sync
+-- the parts that shares have of a session
+Read-send : (T : RattleType) → IsSync T → IsSend (ReadShare.the_row T)
+Read-send T y = read.the_send T y
+
+Read-sync : (T : RattleType) → IsSync T → IsSync (ReadShare.the_row T)
+Read-sync T y = read.the_sync T y
+
+Deed-send : (T : RattleType) → IsSend T → IsSend (Deed.the_row T Heap.the_row ghosts)
+Deed-send T s = deed.the_send T Heap.the_row ghosts s heap.send heap.frees
+
+Deed-sync : (T : RattleType) → IsSend T → IsSync (Deed.the_row T Heap.the_row ghosts)
+Deed-sync T s = deed.the_sync T Heap.the_row ghosts s heap.send heap.frees
+
+slot_send : IsSend (Option.the_row Holding.the_row)
+slot_send = search (crosses, sendable, holding.the_send) depth 60 fits 20000
+
+-- a `&` to a pass shows nothing of what it owns
+pass_sync : IsSync (Pass.the_field).row
+pass_sync =
+    let T = Pass.the_type in
+    let place : AllSend (declared.fields T) = (seats.the_send (Option.the_row Holding.the_row) View.the_row slot_send, tt) in
+    let all : AllSync (declared.fields T) = (record { shared = λ d b o κ q. part_keyless _ place.0 q d b o }, tt) in
+    struct_sync (declared.shape T) all
+
+lead_send : IsSend SessionDeed.the_row
+lead_send =
+    let T = SessionDeed.the_type in
+    let all : AllSend (declared.fields T) = (search (crosses, sendable, Deed-send, session_send) depth 60 fits 20000, (search (crosses, sendable, Read-send, session_sync) depth 60 fits 20000, tt)) in
+    recorded_send (Struct (declared.shape T)) T.D T.to T.to_one (struct_send (declared.shape T) all)
+
+lead_sync : IsSync SessionDeed.the_row
+lead_sync =
+    let T = SessionDeed.the_type in
+    let all : AllSync (declared.fields T) = (search (crosses, sendable, Deed-sync, session_send) depth 60 fits 20000, (search (crosses, sendable, Read-sync, session_sync) depth 60 fits 20000, tt)) in
+    recorded_sync (Struct (declared.shape T)) T.D T.to T.to_one (struct_sync (declared.shape T) all)
+
+stake_send : IsSend Stake.the_row
+stake_send =
+    let T = Stake.the_type in
+    let all : AllSend (declared.fields T) = (search (crosses, sendable, Read-send, session_sync) depth 60 fits 20000, (pass.the_field_send, (search (crosses, sendable, lead_send) depth 60 fits 20000, tt))) in
+    recorded_send (Struct (declared.shape T)) T.D T.to T.to_one (struct_send (declared.shape T) all)
+
+stake_sync : IsSync Stake.the_row
+stake_sync =
+    let T = Stake.the_type in
+    let all : AllSync (declared.fields T) = (search (crosses, sendable, Read-sync, session_sync) depth 60 fits 20000, (pass_sync, (search (crosses, sendable, lead_sync) depth 60 fits 20000, tt))) in
+    recorded_sync (Struct (declared.shape T)) T.D T.to T.to_one (struct_sync (declared.shape T) all)
+
+returned_send : IsSend ReturnedStakes.the_row
+returned_send = search (crosses, sendable, slot.the_send, stake_send) depth 60 fits 20000
+
+returned_sync : IsSync ReturnedStakes.the_row
+returned_sync = search (crosses, sendable, slot.the_sync, stake_send, stake_sync) depth 60 fits 20000
 
 ticket_send : IsSend (RegionTicket.the_field).row
 ticket_send = search (crosses, sendable) depth 60 fits 20000
@@ -98,10 +164,10 @@ worker_send =
 share_send : IsSend (Share.the_field).row
 share_send =
     let T = Share.the_type in
-    let all : AllSend (declared.fields T) = (session_shared, (worker_send, (search sendable, tt))) in
+    let all : AllSend (declared.fields T) = (search (crosses, sendable, Read-send, session_sync) depth 60 fits 20000, (search (crosses, sendable, lead_send) depth 60 fits 20000, (worker_send, (search sendable, (heap.Arc-send ReturnedStakes.the_row returned_send returned_sync, tt))))) in
     struct_send (declared.shape T) all
 
 pub part_send : IsSend Part.the_row
 part_send =
     let T = Part.the_type in
-    recorded_send (Struct (declared.shape T)) T.D T.to T.to_one (struct_send (declared.shape T) (share_send, (origin.the_field_send, tt)))
+    recorded_send (Struct (declared.shape T)) T.D T.to T.to_one (struct_send (declared.shape T) (search (crosses, sendable, share_send) depth 60 fits 20000, (origin.the_field_send, tt)))

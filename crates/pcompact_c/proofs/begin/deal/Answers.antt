@@ -12,11 +12,11 @@ use Rattle.pcompact_c.proofs.begin.deal.Goals as goal
 pub returns-in-Ok-clause-parts : goal.returns-in-Ok-clause-parts
 returns-in-Ok-clause-parts c _ = c.hand_out.ensures.parts c.args.image Copied c.in-Ok.ensures.parts
 
--- why a session isn't begun, whether its image is kept or lost
+-- why a session isn't begun: its image is kept
 cause : (refusal : Refusal) (image : HeapImage) → IfKept refusal (λ back fault. (back ≡ image) × ((fault ≡ Memory) ⊎ (fault ≡ Workers)))
-    → IfLost refusal (λ fault. fault ≡ Memory) → (fault_of refusal ≡ Memory) ⊎ (fault_of refusal ≡ Workers)
+    → IfLost refusal (λ fault. ⊥) → (fault_of refusal ≡ Memory) ⊎ (fault_of refusal ≡ Workers)
 cause (Kept back fault) image kept _ = kept.1
-cause (Lost fault) image _ memory = inl memory
+cause (Lost fault) image _ lost = absurd lost
 
 pub returns-in-Err-clause-fault : goal.returns-in-Err-clause-fault
 returns-in-Err-clause-fault c _ =

@@ -1,5 +1,5 @@
 use Rattle.std.proofs.Common.{◌∙◌, ap, arith, Box, Global}
-use Rattle.std.specs.Prelude.{Some, option_map}
+use Rattle.std.specs.Prelude.{Some, option_map, option_and_then}
 use Rattle.std.proofs.lemmas.List.{length-set}
 use Rattle.collector.specs.Sessions.{image_of}
 use Rattle.caller_heap.specs.declared.part.Part.{Part}
@@ -27,7 +27,7 @@ loop-handle-preserved c =
           let so_far = l.invariant.parts image origin all in
           let both = front_and_last (λ (b : Box Part Global). IsPartOf image origin b.value) l.parts.items c.pop.new.self.items c.in-Some.part c.in-Some.ensures.items so_far.0 in
           let here : IsHandleOf image origin h = (
-            ap (λ o. option_map image_of (option_map (λ (part : Part). part.share) o)) c.enter.ensures ∙ ap Some both.1.0,
+            ap (λ o. option_map image_of (option_and_then (λ (part : Part). part.share) o)) c.enter.ensures ∙ both.1.0,
             ap (option_map (λ (part : Part). part.origin)) c.enter.ensures ∙ ap Some both.1.1,
           ) in
           (both.0, one_more (IsHandleOf image origin) l.handles i h (let inside = c.loop-handle-test.true in let long = l.invariant.long in omega arith) so_far.1 here);

@@ -1,5 +1,5 @@
 use Rattle.std.proofs.Common.{◌≡◌, ◌∙◌, List, [], ◌∷◌, ◌++◌, ap, sym, subst, arith, take, get_or, Box, Vec, Global, Result, Ok, Err}
-use Rattle.std.specs.Prelude.{Option, Some, None, IfOk, MatchOption, MatchResult, map, option_map}
+use Rattle.std.specs.Prelude.{Option, Some, None, IfOk, MatchOption, MatchResult, map, option_and_then}
 use Rattle.std.proofs.lemmas.List.{length-set, map-append, take_more}
 use Rattle.image_streams.specs.declared.fault.Fault.{Fault}
 use Rattle.collector.specs.declared.session.share.Share.{Share}
@@ -12,7 +12,7 @@ use Rattle.pcompact_c.proofs.end.take_shares.Goals as goal
 grown : (before after : Result (Vec Share Global) Fault) (part : Option (Box Part Global)) (first : List Handle) (h : Handle)
     → IfOk before (λ shares. map share_in first ≡ map Some shares.items)
     → MatchOption part (h.2 ≡ None) (λ b. h.2 ≡ Some b.value)
-    → IfOk after (λ all. MatchResult before (λ so_far. MatchOption part ⊥ (λ more. all.items ≡ so_far.items ++ more.value.share ∷ [])) (λ _. ⊥))
+    → IfOk after (λ all. MatchResult before (λ so_far. MatchOption part ⊥ (λ more. map Some all.items ≡ map Some so_far.items ++ more.value.share ∷ [])) (λ _. ⊥))
     → IfOk after (λ all. map share_in (first ++ h ∷ []) ≡ map Some all.items)
 grown before (Err fault) part first h so_far is made = tt
 grown (Err fault) (Ok all) part first h so_far is made = absurd made
@@ -20,9 +20,8 @@ grown (Ok shares) (Ok all) None first h so_far is made = absurd made
 grown (Ok shares) (Ok all) (Some more) first h so_far is made =
     map-append share_in first (h ∷ [])
     ∙ ap (λ xs. xs ++ share_in h ∷ []) so_far
-    ∙ ap (λ x. map Some shares.items ++ option_map (λ (part : Part). part.share) x ∷ []) is
-    ∙ sym (map-append Some shares.items (more.value.share ∷ []))
-    ∙ ap (map Some) (sym made)
+    ∙ ap (λ x. map Some shares.items ++ option_and_then (λ (part : Part). part.share) x ∷ []) is
+    ∙ sym made
 
 pub loop-handle-preserved : goal.loop-handle-preserved
 loop-handle-preserved c =

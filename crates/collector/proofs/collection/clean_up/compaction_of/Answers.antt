@@ -1,13 +1,10 @@
 use Rattle.std.proofs.Common.{◌≡◌, ◌++◌, ℕ, List, length, drop, take, ap, sym, ◌∙◌, subst, arith}
 use Rattle.std.proofs.Math.Seq.{take-append_seam}
-use Rattle.std.proofs.lemmas.List.{length-map}
-use Rattle.std.proofs.lemmas.List.FromFn.{length-map-range_with_len}
 use Rattle.std.specs.Prelude.{map, option_map}
 use Rattle.std.specs.List.{concat}
-use Rattle.object_heap.specs.HeapImage.{HeapImage, IsValid, AreBlocks, region_count, versioned_image_of}
+use Rattle.object_heap.specs.HeapImage.{HeapImage, IsValid, AreBlocks, versioned_image_of}
 use Rattle.summary.specs.NewAddresses.{new_address, new_top}
 use Rattle.summary.specs.Compaction.{compact, redirected}
-use Rattle.region_cells.specs.Blocks.{moved_block}
 use Rattle.fill.specs.MovedHeap.{cleared}
 use Rattle.collector.proofs.collection.clean_up.compaction_of.Goals as goal
 

@@ -1,7 +1,7 @@
 use Rattle.std.proofs.Common.{◌≡◌, ℕ, List, map, sym, subst, ap, ◌∙◌}
 use Rattle.std.specs.Prelude.{option_map}
 use Rattle.std.specs.List.{range_with_len}
-use Rattle.object_heap.specs.HeapImage.{HeapImage, IsValid, AreBlocks, region_count, block_of, versioned_image_of}
+use Rattle.object_heap.specs.HeapImage.{IsValid, AreBlocks, region_count, block_of, versioned_image_of}
 use Rattle.collector.proofs.Lemmas.Regions.{blocks_by}
 use Rattle.collector.proofs.collection.preparing.with_regions.Goals as goal
 use Rattle.collector.proofs.collection.preparing.with_regions.Goals.{After-planned_image_is_valid}
