@@ -1,16 +1,16 @@
 /* The C interface of pcompact, a sliding full collection whose program is proved.
  *
  * Link libpcompact.a. It takes memory by malloc, unless the program defines the three functions of heap.c: any allocator
- * that aligns to 16 bytes and that several threads may call can stand in its place. Each call is proved but pcompact_cut, those
- * in place, and those of several threads over lent words: these are a few lines of C, here, in in_place.c and in lent.c, around
- * calls that are proved, and are only tested.
+ * that aligns to 16 bytes and that several threads may call can stand in its place. Each call is proved but pcompact_cut and
+ * pcompact_is_live, those in place, those of several threads over lent words, and slides: these are a few lines of C, here, in
+ * in_place.c, in lent.c and in slide.c, around calls that are proved, and are only tested.
  *
- * No fault loses a heap: this is proved, but for words that are lent, of which it is only tested. What a caller mixes up of a
- * collection by several threads is fault 12.
+ * No fault loses a heap: this is proved, but for words that are lent or slid, of which it is only tested. What a caller mixes up
+ * of a collection or slide by several threads is fault 12.
  *
- * No call starts a thread or waits, and none keeps state but behind the handles of a collection by several threads, so
- * several threads may be in calls at once, each with memory and handles of its own. No call may be made from a signal
- * handler, or in a forked child of a process with threads. */
+ * No call starts a thread or waits, and none keeps state but behind the handles of a collection or slide, so several threads may
+ * be in calls at once, each with memory and handles of its own. No call may be made from a signal handler, or in a forked child
+ * of a process with threads. */
 #ifndef PCOMPACT_H
 #define PCOMPACT_H
 
@@ -58,13 +58,13 @@ typedef struct pcompact_answer {
 uint32_t pcompact_summary_of_image(const uint8_t *bytes, size_t len, pcompact_answer *answer);
 
 /* What the words of a heap don't say. Its regions divide the words. There are at most 16384 regions and 4194304 words, which are
- * 32 MiB, with roots 1048576 and 68719476736: else the fault is 4.
+ * 32 MiB, with roots or in a slide 1048576 and 68719476736: else the fault is 4.
  *
  * The first word of an object is its header, (1 << 56) + (references << 32) + size: below 2^24 references, and a size in words,
  * this one included, below 2^32. By `+` 2^24 references make another kind, which is fault 7; by `|` they would make an object
  * without references, and what they lead to would be lost. */
 typedef struct pcompact_settings {
-    uint32_t region_log; /* the logarithm, to base 2, of the number of words of a region: 3 to 16, with roots to 20 */
+    uint32_t region_log; /* the logarithm, to base 2, of the words of a region: 3 to 16, with roots or in a slide to 20 */
     uint64_t allowance;  /* the largest number of dead words that the dense prefix may keep */
 } pcompact_settings;
 
@@ -130,9 +130,9 @@ uint32_t pcompact_collect_lent(pcompact_words *words, size_t region_count, uint6
 uint32_t pcompact_collect_lent_rooted(pcompact_words *words, size_t region_count, uint64_t *roots, size_t root_count,
                                       pcompact_settings settings, pcompact_answer *answer);
 
-/* One worker's part in a collection by several threads, or none. It begins as all zeros; afterwards only the library writes
- * its fields, and nobody copies one that is held or touches what it leads to. One call at a time uses a handle. It may go to
- * another thread by a start or join of a thread, a lock, or an atomic variable. */
+/* One worker's part in a collection or slide by several threads, or a slide's plan, or none. It begins as all zeros; afterwards
+ * only the library writes its fields, and nobody copies one that is held or touches what it leads to. One call at a time uses a
+ * handle. It may go to another thread by a start or join of a thread, a lock, or an atomic variable. */
 typedef struct pcompact_handle {
     bool is_held;
     void *at;
@@ -189,9 +189,15 @@ enum {
     PCOMPACT_NOT_HELD = 5    /* the handle isn't held */
 };
 
-/* Where the collection of a handle takes the word at this address, the first of its object or not; known from its begin to its end.
- * UINT64_MAX if no live object has such a word, or the handle isn't held. Takes no memory. `handle` isn't null. */
+/* Where the collection or slide of a handle takes the word at this address, the first of its object or not; known from its begin
+ * to its end, and from a slide's plan on by the plan's handle. UINT64_MAX if no live object has such a word, or the handle isn't
+ * held. Takes no memory. `handle` isn't null. */
 uint64_t pcompact_new_address(pcompact_handle *handle, uint64_t address);
+
+/* Whether a live object has the word at this address, by such a handle. */
+static inline bool pcompact_is_live(pcompact_handle *handle, uint64_t address) {
+    return pcompact_new_address(handle, address) != UINT64_MAX;
+}
 
 /* How a host's slots lead to words of its heap: a slot leads to the word at address a if it is `base` plus 2 ^ `unit` times a. For
  * machine pointers into one row of words `base` is the address of the first and `unit` is 3. Only the low 6 bits of it count. */
@@ -202,9 +208,10 @@ typedef struct pcompact_slot_coding {
 } pcompact_slot_coding;
 
 /* Redirects slots that are kept outside of the heap, such as a host's roots and weak tables: each that leads to a word of the heap
- * leads to where the collection of the handle takes the word, or becomes `dead`. All others stay. Returns PCOMPACT_SETTLED, or
- * PCOMPACT_NOT_HELD, and then all stay. Takes no memory. No pointer is null, also with a count of 0, nothing overlaps the slots, and
- * nobody reads or writes them meanwhile. */
+ * leads to where the collection of the handle takes the word, or becomes `dead`. All others stay. By the handle of a plan the
+ * slots may also be words of the heap, such as an object's fields, each once. Returns PCOMPACT_SETTLED, or PCOMPACT_NOT_HELD, and
+ * then all stay. Takes no memory. No pointer is null, also with a count of 0, nothing overlaps the slots, and nobody reads or
+ * writes them meanwhile. */
 uint32_t pcompact_redirect(pcompact_handle *handle, uint64_t *slots, size_t slot_count, pcompact_slot_coding coding);
 
 /* Fills regions that are ready by the worker of a handle, at most `turns`. Returns how far the work has come. Takes no memory
@@ -236,6 +243,59 @@ uint32_t pcompact_end_lent(pcompact_handle *handles, size_t worker_count, pcompa
  * all is as it was, handles and regions too, and the collection goes on. */
 uint32_t pcompact_end_in_place(pcompact_handle *handles, size_t worker_count, pcompact_regions *regions, uint64_t *list,
                                size_t list_count, pcompact_answer *answer);
+
+/* A slide of opaque objects: the host says where its live objects lie and how large they are, and the library moves their words as
+ * they are. It reads and changes nothing inside of them, needs no header, and keeps their order; all references are the host's to
+ * redirect. First a plan says where words will go, while they are still the host's; then its threads slide them, in place.
+ *
+ * A heap in chunks that no object crosses is a slide for each chunk. Each thread then has a handle of each slide, and calls
+ * pcompact_work by one after the other, again and again, until all are settled. Each slot is redirected by the plan of the chunk
+ * that it leads to.
+ *
+ * To pcompact_redirect the last region is whole: where regions don't divide the words, a slot that leads right behind the heap, to
+ * a word that the last region lacks, becomes `dead` too.
+ *
+ * A slide begins as all zeros; afterwards only the library writes its fields, and nobody copies it. One call at a time uses it. */
+typedef struct pcompact_slide {
+    pcompact_handle plan;    /* until the slide begins: for pcompact_new_address, pcompact_is_live and pcompact_redirect alone */
+    uint64_t *words;         /* the heap */
+    size_t word_count;
+    uint32_t region_log;
+    pcompact_words *regions; /* its regions from the begin to the end, else null */
+    size_t region_count;
+    uint64_t *last;          /* the words of the last region, where it is shorter than the others, else null */
+} pcompact_slide;
+
+/* Plans the slide of the objects at these addresses, ascending, with these sizes in words, in the heap with these words, from
+ * address 0 up, which regions need not divide. The words aren't read or written, and may change until the slide begins. With an
+ * allowance of 0 no dead word is left between objects; otherwise those that the dense prefix keeps stay as they are.
+ *
+ * Returns the fault: 12 if there is a plan already or the slide has begun, 3 or 4 for the settings and the number of words, which
+ * isn't 0, or that of the first object with which something is wrong: 6 with its index out of order or outside of the words, or
+ * with its address 7 without a word or beyond the last word, 8 over the object before it. 11 if memory runs out. After a fault all
+ * is as it was. Takes the memory of a copy of both lists until it returns, and about 4 bits for each word until the slide ends. No
+ * pointer is null, also with a count of 0, and nobody writes there meanwhile. */
+pcompact_fault pcompact_plan(uint64_t *words, size_t word_count, const uint64_t *live, const uint32_t *sizes, size_t live_count,
+                             pcompact_settings settings, pcompact_slide *slide);
+
+/* Begins the slide that is planned, by 1 to 64 workers, and gives each of these handles a worker's part, for pcompact_work or
+ * pcompact_work_all. From here to the end only the library uses the words. Returns the fault: 12 if nothing is planned, there
+ * aren't 1 to 64 handles or one is held, or 11 if memory runs out. After a fault all is as it was, and planned. Takes the memory
+ * of so many workers, 24 bytes for each region, and, where the last region is shorter than the others, the words of one. No
+ * pointer is null, and the plan isn't among the handles. */
+pcompact_fault pcompact_begin_slide(pcompact_slide *slide, pcompact_handle *handles, size_t worker_count);
+
+/* Ends a slide by all its handles, in any order, once no other call uses them: fills what is left to fill. Afterwards the words
+ * are the host's, and slide and handles can begin again. Words from the new top in `answer` up are 0 if `clears`, and otherwise as
+ * they were; those of the objects that have moved may be there still. Nothing but the words of the heap is written. Returns the
+ * number of the fault in `answer`: 0, 12 if the slide hasn't begun or these aren't all its handles, or 11 if memory runs out.
+ * After a fault all is as it was, and the slide goes on. No pointer is null, and nothing overlaps. `answer` need not be filled
+ * before. */
+uint32_t pcompact_end_slide(pcompact_slide *slide, pcompact_handle *handles, size_t worker_count, bool clears,
+                            pcompact_answer *answer);
+
+/* Forgets what is planned, if it is, and frees its memory. Returns 0, or 12 if the slide has begun, which then goes on. */
+uint32_t pcompact_forget_slide(pcompact_slide *slide);
 
 /* Redirects references that are kept outside of the heap with these words and live addresses to where pcompact_collect will
  * take their objects; to be called before it. Each is 0, which stays, or 1 plus a live address. Returns the fault: 0, 3, 4,

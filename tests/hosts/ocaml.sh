@@ -65,7 +65,7 @@ run_compacting() {
     take_slides "$workers"
 }
 
-# A program with all kinds of references, also in a heap above the 32 MiB of a live list.
+# A program with all kinds of references, in small chunks and in a heap that begins as one chunk of 64 MiB.
 try_heaps() {
     local workers
     cp tests/hosts/heaps.ml "$room/here"

@@ -3,3 +3,5 @@ pub mod HeapWords
 pub mod Lent
 pub mod Parts
 pub mod Slots
+pub mod Places
+pub mod Slides

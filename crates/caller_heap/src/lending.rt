@@ -85,7 +85,11 @@ fn lend_parts(
 ///
 /// After a fault they are back: 11 if memory runs out, 4 if some aren't held or are more or fewer. After fault 12, where a
 /// region isn't a host's, only some of them are.
-fn lend_all(alloc: Global, words: &mut [HostWords], region_log: u32) -> Result<Vec<Region>, Fault>
+pub(crate) fn lend_all(
+    alloc: Global,
+    words: &mut [HostWords],
+    region_log: u32,
+) -> Result<Vec<Region>, Fault>
     ensures regions { IfOk result (λ regions. regions.items ≡ map words_in words.old) }
     ensures whole { OnOk result (AreBlocks region_log (map words_in words.old)) }
     ensures held { OnOk result (All IsHeld words.old) }
@@ -146,7 +150,7 @@ fn region_size(region_log: u32) -> usize
 }
 
 /// Gives the regions back as the first words of a list. Fails with fault 12 if one isn't a host's.
-fn keep_all(words: &mut [HostWords], mut regions: Vec<Region>) -> Result<(), Fault>
+pub(crate) fn keep_all(words: &mut [HostWords], mut regions: Vec<Region>) -> Result<(), Fault>
     requires few { vec_len regions ≤ length words.old }
     requires gone { All IsGone (take (vec_len regions) words.old) }
     ensures kept { OnOk result (map content words.new

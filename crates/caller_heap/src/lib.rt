@@ -2,12 +2,16 @@
 //!
 //! Proved: that the words and the live addresses or roots are those of the compaction afterwards, or after a fault as they
 //! were. A call works on a copy of the words, and copies them back, but for those over lent words, which copy none.
+//!
+//! A slide of opaque objects, by [`begin_slide`] and [`end_slide`], works on lent words too: proved is where each word lies
+//! afterwards.
 #![tactic(auto)]
 
 mod collection;
 mod heap_words;
 mod lending;
 mod lent_collection;
+mod lent_slide;
 mod part;
 mod reading;
 mod settings;
@@ -17,7 +21,8 @@ pub use collection::{collect_words, put_tail, put_words};
 pub use heap_words::front_of;
 pub use lending::image_of_lent;
 pub use lent_collection::{begin_lent, collect_lent_words, end_lent_words, suits};
+pub use lent_slide::{SlideBack, begin_slide, end_slide};
 pub use part::{Origin, Part, boxed_parts};
 pub use reading::image_of_heap;
 pub use settings::HeapSettings;
-pub use slots::{SlotCoding, redirect_slots};
+pub use slots::{Places, SlotCoding, redirect_slots};

@@ -1,18 +1,19 @@
 //! A worker's part in a collection, as its host keeps it.
-ghost use Rattle.std.specs.Prelude.{◌≡◌, ◌⊎◌, ◌≤◌, [], All, IfOk, IfErr, IfSome, IfNone, is_some, vec_len, map, option_map};
+ghost use Rattle.std.specs.Prelude.{◌≡◌, ◌⊎◌, ◌≤◌, ◌||◌, ℕ, List, [], All, Option, Some, IfOk, IfErr, IfSome, IfNone, is_some, vec_len, map, option_map};
 ghost use Rattle.std.specs.Vec.{vec_capacity};
 ghost use Rattle.object_heap.specs.HeapImage.{HeapImage};
 ghost use Rattle.image_streams.specs.declared.fault.Fault.TheVariants.{Memory, Workers};
 ghost use Rattle.collector.specs.Collections.{IfKept, IfLost};
-ghost use Rattle.collector.specs.Sessions.{image_of};
+ghost use Rattle.collector.specs.Sessions.{image_of, held_of};
 ghost use Rattle.collector.specs.NewPlaces.{IsNewPlace};
 ghost use Rattle.caller_heap.specs.Parts.{IsPartOf};
+ghost use Rattle.caller_heap.specs.Slides.{planned_in};
 ghost use Rattle.caller_heap.specs.Slots.{redirected_slot};
 ghost use Rattle.caller_heap.specs.declared.part.Origin.{Origin};
 
 use crate::lent_collection::suits;
-use crate::slots::{SlotCoding, redirect_slots};
-use collector::{NewPlace, Progress, Refusal, Session, Share};
+use crate::slots::{Places, SlotCoding, redirect_slots};
+use collector::{NewPlace, Progress, Refusal, Session, Share, Slide};
 use heap_image::{Fault, Image};
 use scheduler::MAX_WORKERS;
 use std::alloc::{AllocError, Global};
@@ -25,13 +26,18 @@ pub enum Origin {
     Copied,
     /// They are the host's own, which lent them in a list at this place.
     Lent(u64),
+    /// The same, of opaque objects.
+    Slid(u64),
+    /// It has none yet: a slide of opaque objects is planned.
+    Planned,
 }
 
-/// A worker's share in a collection, and where that has its words.
+/// A worker's share in a collection, and where that has its words; or a planned slide of opaque objects.
 #[derive(Drop)]
 pub struct Part {
-    /// `None` only while the part waits for its share.
+    /// `None` of a planned slide, or while the part waits for its share.
     pub share: Option<Share>,
+    pub slide: Option<Slide>,
     pub origin: Origin,
 }
 
@@ -39,6 +45,7 @@ impl Part {
     /// Lets the worker fill regions that are ready, at most `turns`, as [`Share::work`]. Without a share there are none.
     pub fn work(&mut self, turns: u64) -> Progress
         ensures image { option_map image_of self.new.share ≡ option_map image_of self.old.share }
+        ensures held { option_map held_of self.new.share ≡ option_map held_of self.old.share }
         ensures origin { self.new.origin ≡ self.old.origin }
     {
         match &mut self.share {
@@ -50,6 +57,7 @@ impl Part {
     /// Lets the worker fill regions until all are settled, as [`Share::work_all`].
     pub fn work_all(&mut self)
         ensures image { option_map image_of self.new.share ≡ option_map image_of self.old.share }
+        ensures held { option_map held_of self.new.share ≡ option_map held_of self.old.share }
         ensures origin { self.new.origin ≡ self.old.origin }
     {
         if let Some(share) = &mut self.share {
@@ -57,28 +65,42 @@ impl Part {
         }
     }
 
-    /// Where the session takes the word at this address, as [`Share::new_place`]. Without a share no word is there.
+    /// Where the session, or the planned slide, takes the word at this address. Without both no word is there.
     pub fn new_place(&self, address: u64) -> NewPlace
-        ensures { IfSome self.now.share (λ share. IsNewPlace (image_of share) address result) }
+        ensures share { IfSome self.now.share (λ share. IsNewPlace (image_of share) address result) }
+        ensures slide { IfSome (planned_in self.now.share self.now.slide) (λ image. IsNewPlace image address result) }
     {
-        match &self.share {
-            Some(share) => share.new_place(address),
+        match self.places() {
+            Some(places) => places.new_place(address),
             None => NewPlace::Outside,
         }
     }
 
-    /// Redirects slots, as [`redirect_slots`](crate::redirect_slots). Returns whether there is a share.
+    /// Redirects slots, as [`redirect_slots`](crate::redirect_slots). Returns whether there is a share or a planned slide.
     pub fn redirect(&self, coding: SlotCoding, slots: &mut [u64]) -> bool
-        ensures slots { IfSome self.now.share (λ share. slots.new ≡ map (redirected_slot (image_of share) coding) slots.old) }
-        ensures none { IfNone self.now.share (slots.new ≡ slots.old) }
-        ensures some { result ≡ is_some self.now.share }
+        ensures share { IfSome self.now.share (λ share. slots.new ≡ map (redirected_slot (image_of share) coding) slots.old) }
+        ensures slide { IfSome (planned_in self.now.share self.now.slide) (λ image. slots.new ≡ map (redirected_slot image coding) slots.old) }
+        ensures none { IfNone self.now.share (IfNone self.now.slide (slots.new ≡ slots.old)) }
+        ensures some { result ≡ (is_some self.now.share || is_some self.now.slide) }
     {
-        match &self.share {
-            Some(share) => {
-                redirect_slots(share, coding, slots);
+        match self.places() {
+            Some(places) => {
+                redirect_slots(&places, coding, slots);
                 true
             }
             None => false,
+        }
+    }
+
+    /// What knows where words go.
+    fn places(&self) -> Option<Places<'_>>
+        ensures share { IfSome self.now.share (λ share. result ≡ Some (image_of share)) }
+        ensures slide { IfNone self.now.share (result ≡ self.now.slide) }
+    {
+        match (&self.share, &self.slide) {
+            (Some(share), _) => Some(Places::of_share(share)),
+            (None, Some(slide)) => Some(Places::of_slide(slide)),
+            (None, None) => None,
         }
     }
 
@@ -100,6 +122,14 @@ impl Part {
     pub fn are_all_counted(&self, shares: usize) -> bool {
         match &self.share {
             Some(share) => share.are_all_counted(shares),
+            None => false,
+        }
+    }
+
+    /// Whether it has a share of a session with as many regions.
+    pub fn has_regions(&self, regions: usize) -> bool {
+        match &self.share {
+            Some(share) => share.regions() as usize == regions,
             None => false,
         }
     }
@@ -145,7 +175,7 @@ pub fn boxed_parts(
 }
 
 /// Parts without shares, in a box each.
-fn empty_parts(
+pub(crate) fn empty_parts(
     alloc: Global,
     workers: u32,
     origin: Origin,
@@ -156,7 +186,13 @@ fn empty_parts(
     let mut boxes = Vec::with_capacity(alloc, workers as usize)?;
     for _ in 0..workers {
         let share = None;
-        match Box::new(alloc, Part { share, origin }) {
+        let slide = None;
+        let part = Part {
+            share,
+            slide,
+            origin,
+        };
+        match Box::new(alloc, part) {
             Ok(made) => boxes.push_reserved(made),
             Err(_) => return Err(AllocError),
         }
@@ -165,7 +201,7 @@ fn empty_parts(
 }
 
 /// Puts each share into one of as many parts, and those into a list that has room for them.
-fn with_shares(
+pub(crate) fn with_shares(
     mut parts: Vec<Box<Part, Global>>,
     mut shares: Vec<Share>,
     mut whole: Vec<Box<Part, Global>>,
@@ -176,6 +212,8 @@ fn with_shares(
     ensures count { vec_len result ≡ vec_len parts }
     ensures parts { (image : HeapImage) (origin : Origin) → All (λ share. image_of share ≡ image) shares.items
         → All (λ part. part.value.origin ≡ origin) parts.items → All (λ part. IsPartOf image origin part.value) result.items }
+    ensures held { (held : Option (List (List ℕ))) → All (λ share. held_of share ≡ held) shares.items
+        → All (λ part. option_map held_of part.value.share ≡ Some held) result.items }
 {
     while let (Some(mut part), Some(share)) = (parts.pop(), shares.pop()) {
         drop(mem::replace(&mut part.share, Some(share)));

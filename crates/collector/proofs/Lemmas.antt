@@ -14,3 +14,4 @@ pub mod Stopping
 pub mod Regions
 pub mod Reversals
 pub mod Stakes
+pub mod Kept

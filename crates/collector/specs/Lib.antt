@@ -6,5 +6,7 @@ pub mod Rest
 pub mod Regions
 pub mod NewPlaces
 pub mod SessionIds
+pub mod SessionSubjects
+pub mod Slides
 pub mod Sessions
 pub mod Stakes

@@ -1,10 +1,15 @@
 -- What tells the shares of one session from those of others.
-use Rattle.std.specs.Prelude.{◌≡◌, ◌≤◌, ℕ, List, length, All}
+use Rattle.std.specs.Prelude.{◌≡◌, ◌≤◌, ℕ, List, Option, length, All}
 use Rattle.object_heap.specs.HeapImage.{HeapImage}
 
--- the image of a session, the term for which it is shared out, and the number of its workers
-pub record SessionView : Type 0 where
+-- What a session compacts: an image, or opaque objects that lie where those of the image do, in regions with these words.
+pub record SessionHeap : Type 0 where
   pub image : HeapImage
+  pub held : Option (List (List ℕ))
+
+-- what a session compacts, the term for which it is shared out, and the number of its workers
+pub record SessionView : Type 0 where
+  pub heap : SessionHeap
   pub origin : ℕ
   pub workers : ℕ
 

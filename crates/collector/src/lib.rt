@@ -7,12 +7,18 @@
 //! - [`Session`] compacts an image by workers that run by calls: [`Session::prepare`] returns a
 //!   [`Share`] for each, [`Share::new_place`] says where a word will go, [`Share::work`] fills regions, and [`Share::end`]
 //!   returns the compaction.
+//! - [`Slide`] is a collection of opaque objects, of which only addresses and sizes are known: [`Slide::plan`] says where each
+//!   word will go, [`Slide::begin`] takes the words and returns a [`Share`] for each worker, and [`Share::end_slide`] returns
+//!   them.
 //! - [`record`] collects as `collect` does, and returns the schedule of everything that the workers did.
 //!   [`record_stream`] does so from bytes to bytes.
 //! - [`Gate`] admits each fill and is notified of its completion. [`OpenGate`] refuses nothing.
 //! - [`an_upgrade_is_collected_alike`] is the law that a heap is collected alike in both versions.
 //!
 //! # What is proved
+//!
+//! A slide takes each live word of the regions to where the plan says, and changes no other word; its plan depends on
+//! where the objects lie alone.
 //!
 //! If `collect` succeeds, it returns the compaction of the image and its figures, and a finished board whose history is
 //! legal for the image's moves, with one grant, one completion and one settling of each region to fill and one drain of
@@ -42,6 +48,7 @@ mod gate;
 mod laws;
 mod outcome;
 mod session;
+mod slide;
 mod workers;
 
 pub use collection::recording::{record, record_stream};
@@ -54,6 +61,7 @@ pub use session::Session;
 pub use session::new_place::NewPlace;
 pub use session::progress::Progress;
 pub use session::share::Share;
+pub use slide::{RefusedSlide, Slide};
 pub use verification::{
     ExplainedWord, Explanation, Found, LISTED, Lead, Moved, OtherLive, OtherRoot, OtherWord, Part,
     Verdict, Verifier, explain, verify, verify_below_top,

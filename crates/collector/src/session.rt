@@ -1,5 +1,5 @@
 //! A collection in steps, whose workers run by the caller's calls.
-ghost use Rattle.std.specs.Prelude.{◌≡◌, ◌<◌, ◌⊎◌, ◌↔◌, [], All, length, vec_len, IfOk, IfErr, IfSome, Err};
+ghost use Rattle.std.specs.Prelude.{◌≡◌, ◌<◌, ◌⊎◌, ◌↔◌, [], All, length, vec_len, IfOk, IfErr, IfSome, None, Err};
 ghost use Rattle.heap_image.specs.ImageText.{with_tail};
 ghost use Rattle.summary.specs.Compaction.{compact};
 ghost use Rattle.claim_board.specs.Boards.{board_of, held};
@@ -11,9 +11,10 @@ ghost use Rattle.collector.specs.Rest.{Rests};
 pub(crate) mod new_place;
 pub(crate) mod progress;
 mod returned_stakes;
-mod room;
-mod session_id;
+pub(crate) mod room;
+pub(crate) mod session_id;
 pub(crate) mod share;
+mod slide_end;
 mod stake;
 
 use crate::collection::clean_up::clean_up;
@@ -28,9 +29,11 @@ use claim_board::{Pass, RegionBoard, Seat};
 use crossbeam_utils::Backoff;
 use heap_image::{Fault, Image, Version};
 use progress::Progress;
+use read_shares::Term;
 use retry_policy::Tries;
 use room::SessionRoom;
 use scheduler::{MAX_WORKERS, moves_of_images};
+use session_id::SessionId;
 use share::Share;
 use std::alloc::Global;
 use std::sync::atomic::AtomicUsize;
@@ -41,14 +44,14 @@ use thread_row::Alone;
 pub struct Session {
     pub(crate) shared: Shared<RegionBoard>,
     /// How many live addresses the image has in version 1, otherwise how many roots.
-    numbers: usize,
+    pub(crate) numbers: usize,
     /// How many shares are presented to end the session.
-    presented: AtomicUsize,
+    pub(crate) presented: AtomicUsize,
     ghost listed: { numbers ≡ length (with_tail shared.survey).live },
 }
 
 impl Session {
-    ghost use Rattle.collector.specs.Sessions.{image_of};
+    ghost use Rattle.collector.specs.Sessions.{image_of, held_of};
 
     /// Prepares the compaction of an image by 1 to 64 workers, and returns a share for each. Starts no thread, and never
     /// waits.
@@ -58,6 +61,7 @@ impl Session {
     pub fn prepare(alloc: Global, image: Image, workers: u32) -> Result<Vec<Share>, Refusal>
         ensures count { IfOk result (λ shares. vec_len shares ≡ workers) }
         ensures image { IfOk result (λ shares. All (λ share. image_of share ≡ image) shares.items) }
+        ensures objects { IfOk result (λ shares. All (λ share. held_of share ≡ None) shares.items) }
         ensures kept { IfErr result (λ refusal. IfKept refusal
             (λ back fault. (back ≡ image) × ((fault ≡ Fault.Memory) ⊎ (fault ≡ Fault.Workers)))) }
         ensures workers { result ≡ Err (Kept image Fault.Workers) ↔ AreNoneOrTooMany workers }
@@ -66,7 +70,10 @@ impl Session {
         if workers == 0 || workers > MAX_WORKERS {
             return Err(Refusal::Kept(image, Fault::Workers));
         }
-        let Ok(room) = SessionRoom::new(alloc, &image, workers) else {
+        let term = Term::new();
+        let id = SessionId::of_image(&image, &term, workers);
+        let own = SessionId::of_image(&image, &term, workers);
+        let Ok(room) = SessionRoom::new(alloc, term, id, own) else {
             return Err(Refusal::Kept(image, Fault::Memory));
         };
         let numbers = numbers_of(&image);
@@ -91,6 +98,7 @@ impl Session {
             ..
         } = shared;
         moves_of_images();
+        let parts = parts?;
         let regions = desk.take_back()?;
         Some(with_regions(parts, regions, survey.plan()))
     }
@@ -142,6 +150,7 @@ impl Session {
             parts,
             ..
         } = shared;
+        let parts = parts?;
         let moved = desk.into_settled(pass)?;
         Some(clean_up(parts, moved, &survey, &Alone))
     }

@@ -20,4 +20,6 @@ mod refusals;
 #[cfg(test)]
 mod sessions;
 #[cfg(test)]
+mod slides;
+#[cfg(test)]
 mod workers;

@@ -96,6 +96,7 @@ fn filler_of(heap: &Heap) -> Filler<'_, RegionBoard, ()>
         desk: &heap.board,
         survey: &heap.survey,
         wait: &(),
+        redirects: true,
     }
 }
 

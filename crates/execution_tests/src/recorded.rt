@@ -96,6 +96,7 @@ fn fill_four<W: Wait>(heap: &RecordedHeap, seat: &mut Seat, alloc: Global, wait:
         desk: &heap.recorder,
         survey: &heap.survey,
         wait,
+        redirects: true,
     };
     let mut sources = Vec::new(alloc);
     for region in 0..4 {

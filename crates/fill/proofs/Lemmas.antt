@@ -6,6 +6,8 @@ pub mod Late
 pub mod Writing
 pub mod Slides
 pub mod WrittenTo
+pub mod Held
+pub mod SlidBlocks
 pub mod Redirects
 pub mod Steps
 pub mod Gaps

@@ -1,6 +1,7 @@
 pub mod MovedHeap
 pub mod WordBlocks
 pub mod CopiedWords
+pub mod SlidWords
 pub mod Runs
 pub mod Objects
 pub mod WrittenWords

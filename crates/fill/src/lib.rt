@@ -8,6 +8,9 @@
 //! then the references of the objects that lie wholly in the region are redirected in place. A region of the prefix
 //! keeps its live words and gets fillers in its gaps.
 //!
+//! Opaque objects have neither headers nor references to redirect. An image says where they lie and go, and the board has
+//! their words, which are only slid: nothing in them is read or changed, and a region of the prefix is left as it is.
+//!
 //! An object whose new words cross the end of the region in which they begin is deferred: it is moved with its old
 //! references. [`update_deferred`] redirects them once all regions are filled, and [`clear_above`] zeroes the words from
 //! the new top up. An [`Updater`] is who redirects them: the caller [`Alone`](thread_row::Alone), or
@@ -17,14 +20,19 @@
 //! moved words, word for word; its worker has made the drains of its other sources and its completion, and no other call,
 //! and has reported exactly the sources whose drain returned `Last`; [`update_deferred`], followed by [`clear_above`], turns
 //! the moved words into the compaction's; no call reads or writes outside its regions, and each returns, if the desk does.
+//! A fill of opaque objects does the same with the words that the board keeps, whatever they are: each live word is at its
+//! new address as it was, and where none goes the word is the one that was there.
+//! [`opaque_words_slide`] and [`opaque_regions_slide`] are laws of these words, for callers' proofs.
 //! **Only tested**: how many words are noted before each drain, and into how many parts the update is split. **Not
 //! stated**: how fast a call is.
 #![tactic(auto)]
 
 mod cleanup;
+mod laws;
 mod region;
 
 pub use cleanup::clear::clear_above;
 pub use cleanup::deferred::update_deferred;
 pub use cleanup::updater::Updater;
+pub use laws::{opaque_regions_slide, opaque_words_slide};
 pub use region::filling::Filler;

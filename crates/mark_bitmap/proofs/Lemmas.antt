@@ -3,3 +3,7 @@ pub mod Apart
 pub mod Runs
 pub mod Ends
 pub mod PartBits
+pub mod Opaque
+pub mod Pieces
+pub mod OpaqueValid
+pub mod OpaqueImage

@@ -1,1 +1,4 @@
 pub mod Marks
+pub mod OpaqueObjects
+pub mod Listed
+pub mod Surveyed

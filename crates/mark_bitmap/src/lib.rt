@@ -9,17 +9,26 @@
 //! these are the marks of this image. The result of each query is stated by the definitions of `heap_image` for that
 //! image.
 //!
-//! Proved: the exact result of each query, for every valid image. Only tested: `of` returns an error if memory runs out,
+//! [`OpaqueObjects`] are objects of which only addresses and sizes are known, with their marks: those of an image whose
+//! objects lie where these do, and refer to nothing. [`Listed`] is what a plan reads of either: where its objects lie.
+//!
+//! Proved: the exact result of each query, for every valid image, and the first fault of a list of opaque objects. Only tested: `of` returns an error if memory runs out,
 //! and the number of threads. How fast the queries are is neither proved nor tested.
 #![tactic(auto)]
 
 mod laws;
+mod listed;
 mod live_shares;
 mod mark_builder;
 mod marks;
 mod objects;
+mod opaque_objects;
 mod part_bits;
+mod surveyed;
 
-pub use laws::marked_image_is_valid;
+pub use laws::{listed_image_is_valid, marked_image_is_valid};
+pub use listed::Listed;
 pub use mark_builder::MarkBuilder;
 pub use marks::Marks;
+pub use opaque_objects::{OpaqueHeap, OpaqueObjects};
+pub use surveyed::Surveyed;

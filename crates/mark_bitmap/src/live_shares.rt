@@ -3,14 +3,16 @@ ghost use Rattle.std.specs.Prelude.{◌≡◌, ◌+◌, ◌<◌, length};
 ghost use Rattle.object_heap.specs.HeapImage.{is_live_word};
 ghost use Rattle.mark_bitmap.specs.Marks.{AreBegins, AreBitsFrom, IsBlankPart};
 
+use crate::laws::listed_image_is_valid;
+use crate::listed::Listed;
 use crate::objects::mark_part;
-use heap_image::{Bits, Image, image_is_valid};
+use heap_image::Bits;
 use std::thread::{Threads, join_mut};
 
 /// What the threads share.
 #[derive(Drop)]
 pub(crate) struct LiveShares<'a, T: Threads + Sync> {
-    pub(crate) image: &'a Image,
+    pub(crate) image: &'a Listed<'a>,
     /// The bits of the first words of the live objects.
     pub(crate) begins: &'a Bits,
     pub(crate) threads: &'a T,
@@ -33,7 +35,7 @@ impl<T: Threads + Sync> LiveShares<'_, T> {
             mark_part(self.image, self.begins, start, words);
             return;
         }
-        image_is_valid(self.image);
+        listed_image_is_valid(self.image);
         let (low_words, high_words) = words.split_at_mut(self.share);
         let middle = start + low_words.len();
         let mut low = ||

@@ -5,10 +5,13 @@ ghost use Rattle.object_heap.specs.HeapImage.{IsValid, heap_words, is_live_word,
 ghost use Rattle.object_heap.specs.Bits.{NoneFrom, IsFirstFrom, NoneBetween, IsFirstBetween};
 ghost use Rattle.mark_bitmap.specs.Marks.{AreBegins, AreBitsFrom, AreLiveBits, bit_words, continues_at, is_begin, is_end};
 
-use crate::laws::marked_image_is_valid;
+use crate::laws::{listed_image_is_valid, marked_image_is_valid};
+use crate::listed::Listed;
 use crate::mark_builder::MarkBuilder;
-use crate::objects::{begin_bits, no_bits, taken_begin_bits};
-use heap_image::{Bits, Image, image_is_valid};
+use crate::objects::{begin_bits, listed_begin_bits, no_bits, taken_begin_bits};
+use crate::opaque_objects::OpaqueObjects;
+use crate::surveyed::Surveyed;
+use heap_image::{Bits, Image};
 use std::alloc::{AllocError, Global};
 use std::marker::Model;
 use std::snapshot::Snapshot;
@@ -18,7 +21,7 @@ use std::sync::Arc;
 ///
 /// A contract sees the image that the marks were made of, as it was then. The image itself is not kept.
 pub struct Marks {
-    image: Snapshot<Image>,
+    image: Snapshot<Surveyed>,
     begins: Bits,
     live: Arc<Bits, Global>,
 }
@@ -59,7 +62,21 @@ impl Marks {
         ensures { IfOk result (λ marks. marks ≡ image.now) }
     {
         let begins = begin_bits(alloc, image)?;
-        Marks::with_begins(alloc, image, begins, builder)
+        Marks::with_begins(alloc, &Listed::of_image(image), begins, builder)
+    }
+
+    /// Builds the marks of opaque objects, by their list. The builder's threads set the live bits.
+    pub fn of_objects<B: MarkBuilder>(
+        alloc: Global,
+        objects: &OpaqueObjects,
+        builder: &B,
+    ) -> Result<Marks, AllocError>
+        requires { B.may_start }
+        ensures { IfOk result (λ marks. marks ≡ objects.now) }
+    {
+        let listed = Listed::of_objects(objects);
+        let begins = listed_begin_bits(alloc, &listed)?;
+        Marks::with_begins(alloc, &listed, begins, builder)
     }
 
     /// Like [`of`](Marks::of), but takes over the bits that reading the image has kept, if it has. The image itself
@@ -74,13 +91,13 @@ impl Marks {
         ensures same { image.new ≡ image.old }
     {
         let begins = taken_begin_bits(alloc, image)?;
-        Marks::with_begins(alloc, image, begins, builder)
+        Marks::with_begins(alloc, &Listed::of_image(image), begins, builder)
     }
 
     /// Builds the marks of an image with these begin bits.
     fn with_begins<B: MarkBuilder>(
         alloc: Global,
-        image: &Image,
+        image: &Listed<'_>,
         begins: Bits,
         builder: &B,
     ) -> Result<Marks, AllocError>
@@ -96,7 +113,7 @@ impl Marks {
     /// The marks of an image with these bits.
     fn with_bits(
         alloc: Global,
-        image: &Image,
+        image: &Listed<'_>,
         begins: Bits,
         live: Vec<u64>,
     ) -> Result<Marks, AllocError>
@@ -105,10 +122,10 @@ impl Marks {
         requires live { AreBitsFrom (is_live_word image.now) 0 live.items }
         ensures { IfOk result (λ marks. marks ≡ image.now) }
     {
-        image_is_valid(image);
+        listed_image_is_valid(image);
         let live = Arc::new(alloc, Bits::from_words(live))?;
         Ok(Marks {
-            image: Snapshot::of(image),
+            image: image.surveyed(),
             begins,
             live,
         })

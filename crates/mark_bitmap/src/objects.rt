@@ -1,13 +1,15 @@
 //! Sets the bits of the live objects.
 ghost use Rattle.std.specs.Prelude.{◌≡◌, ℕ, ◌+◌, ◌-◌, ◌*◌, ◌%◌, ◌^◌, ◌<◌, ◌≤◌, ◌==◌, ◌||◌, All, IfOk, IfSome, nat_lt, length, map, slice_index, take, drop};
 ghost use Rattle.std.specs.List.{list_any};
-ghost use Rattle.object_heap.specs.HeapImage.{IsValid, HasSoundHeader, end_of, size_at, is_live_word};
+ghost use Rattle.object_heap.specs.HeapImage.{IsValid, HasSoundHeader, end_of, is_live_word, words_alone};
 ghost use Rattle.object_heap.specs.Bits.{has, room};
 ghost use Rattle.object_heap.specs.Sizes.{AreSizesOf};
 ghost use Rattle.mark_bitmap.specs.Marks.{AreBegins, AreBitsFrom, IsBlankPart, IsFirstObject, bit_words, continues_at, is_end};
 
+use crate::laws::listed_image_is_valid;
+use crate::listed::Listed;
 use crate::part_bits::insert_within;
-use heap_image::{Bits, Image, PIECE, image_is_valid};
+use heap_image::{Bits, Heap, Image, PIECE};
 use std::alloc::{AllocError, Global};
 
 /// The begin bits of the live objects. If reading the image has kept them, they are copied.
@@ -16,8 +18,15 @@ pub(crate) fn begin_bits(alloc: Global, image: &Image) -> Result<Bits, AllocErro
 {
     match image.begins() {
         Some(begins) => begins.copy(alloc),
-        None => Bits::of(alloc, image.live(), image.len()),
+        None => listed_begin_bits(alloc, &Listed::of_image(image)),
     }
+}
+
+/// The begin bits of the live objects, by their list.
+pub(crate) fn listed_begin_bits(alloc: Global, image: &Listed<'_>) -> Result<Bits, AllocError>
+    ensures { IfOk result (λ bits. AreBegins image.now bits) }
+{
+    Bits::of(alloc, image.live(), image.len())
 }
 
 /// The begin bits of the live objects. If reading the image has kept them, they are taken out of it.
@@ -32,7 +41,7 @@ pub(crate) fn taken_begin_bits(alloc: Global, image: &mut Image) -> Result<Bits,
 }
 
 /// Words with a bit for each address, none of which is set.
-pub(crate) fn no_bits(alloc: Global, image: &Image) -> Result<Vec<u64>, AllocError>
+pub(crate) fn no_bits(alloc: Global, image: &Listed<'_>) -> Result<Vec<u64>, AllocError>
     ensures room { IfOk result (λ words. length words.items ≡ bit_words image.now) }
     ensures none { IfOk result (λ words. All (λ word. word ≡ 0) words.items) }
 {
@@ -42,20 +51,20 @@ pub(crate) fn no_bits(alloc: Global, image: &Image) -> Result<Vec<u64>, AllocErr
 /// Sets the live bits of a part of the heap. Word `i` has the bits of the 64 addresses from `64 * (start + i)` on.
 ///
 /// The words first get the end bits, which are set for the last words of live objects.
-pub(crate) fn mark_part(image: &Image, begins: &Bits, start: usize, words: &mut [u64])
+pub(crate) fn mark_part(image: &Listed<'_>, begins: &Bits, start: usize, words: &mut [u64])
     requires begins { AreBegins image.now begins.now }
     requires blank { IsBlankPart image.now start words.old }
     ensures room { length words.new ≡ length words.old }
     ensures bits { AreBitsFrom (is_live_word image.now) start words.new }
 {
-    image_is_valid(image);
+    listed_image_is_valid(image);
     mark_ends(image, start, words);
     turn_ends(image, begins, start, words);
 }
 
 /// Sets the bit of the last word of each live object that ends in a part of the heap. Of the objects that begin before
 /// the part, only the last one can end in it.
-fn mark_ends(image: &Image, start: usize, ends: &mut [u64])
+fn mark_ends(image: &Listed<'_>, start: usize, ends: &mut [u64])
     requires valid { IsValid image.now }
     requires inside { start + length ends.old ≤ bit_words image.now }
     requires no_ends { All (λ word. word ≡ 0) ends.old }
@@ -70,7 +79,7 @@ fn mark_ends(image: &Image, start: usize, ends: &mut [u64])
 }
 
 /// The number of live objects that begin below an address. It is the index of the first one that doesn't.
-fn first_from(image: &Image, address: u64) -> usize
+fn first_from(image: &Listed<'_>, address: u64) -> usize
     ensures { IsFirstObject image.now address result }
 {
     image.live().partition_point(
@@ -81,7 +90,7 @@ fn first_from(image: &Image, address: u64) -> usize
 }
 
 /// Sets the bit of the last word of each object of a piece of the live list that ends in a part of the heap.
-fn mark_ends_of(image: &Image, piece: usize, start: usize, ends: &mut [u64])
+fn mark_ends_of(image: &Listed<'_>, piece: usize, start: usize, ends: &mut [u64])
     requires piece { 64 * piece < length image.now.live }
     requires inside { start + length ends.old ≤ bit_words image.now }
     ensures room { length ends.new ≡ length ends.old }
@@ -91,33 +100,21 @@ fn mark_ends_of(image: &Image, piece: usize, start: usize, ends: &mut [u64])
     let objects = image.live();
     let from = piece * PIECE;
     let to = objects.len().min(from + PIECE);
-    let lasts = last_words(image, &objects[from..to], sizes_of(image, piece));
+    let lasts = last_words(image, &objects[from..to], piece);
     insert_within(ends, 64 * start as u64, &lasts[..to - from]);
 }
 
-/// The sizes of the objects of a piece of the live list, if reading the image has kept them.
-fn sizes_of(image: &Image, piece: usize) -> Option<&[u32; PIECE]>
-    requires { 64 * piece < length image.now.live }
-    ensures { IfSome result (λ sizes. (j : ℕ) → j < 64 → 64 * piece + j < length image.now.live
-        → slice_index sizes.now j ≡ size_at image.now (slice_index image.now.live (64 * piece + j))) }
-{
-    match image.sizes() {
-        Some(sizes) => Some(&sizes[piece]),
-        None => None,
-    }
-}
-
-/// The addresses of the last words of a few objects, whose sizes may be known, and zeros after them.
-fn last_words(image: &Image, objects: &[u64], sizes: Option<&[u32; PIECE]>) -> [u64; PIECE]
-    requires valid { IsValid image.now }
+/// The addresses of the last words of the objects of a piece of the live list, and zeros after them.
+fn last_words(image: &Listed<'_>, objects: &[u64], piece: usize) -> [u64; PIECE]
+    requires piece { 64 * piece < length image.now.live }
+    requires objects { objects.now ≡ take (length objects.now) (drop (64 * piece) image.now.live) }
     requires few { length objects.now ≤ 64 }
-    requires sound { All (HasSoundHeader image.now) objects.now }
-    requires sizes { IfSome sizes (λ sizes. AreSizesOf image.now objects.now sizes.now) }
     ensures { take (length objects.now) result ≡ map (λ a. end_of image.now a - 1) objects.now }
 {
-    match sizes {
-        Some(sizes) => last_words_by_sizes(image, objects, sizes),
-        None => last_words_by_headers(image, objects),
+    listed_image_is_valid(image);
+    match image.sizes() {
+        Ok(sizes) => last_words_by_sizes(image, objects, &sizes[piece]),
+        Err(heap) => last_words_by_headers(image, &heap, objects),
     }
 }
 
@@ -125,13 +122,13 @@ fn last_words(image: &Image, objects: &[u64], sizes: Option<&[u32; PIECE]>) -> [
 ///
 /// The loop does nothing but read headers, so that their cache misses overlap.
 #[inline]
-fn last_words_by_headers(image: &Image, objects: &[u64]) -> [u64; PIECE]
+fn last_words_by_headers(image: &Listed<'_>, heap: &Heap<'_>, objects: &[u64]) -> [u64; PIECE]
     requires valid { IsValid image.now }
+    requires heap { heap.now ≡ words_alone image.now }
     requires few { length objects.now ≤ 64 }
     requires sound { All (HasSoundHeader image.now) objects.now }
     ensures { take (length objects.now) result ≡ map (λ a. end_of image.now a - 1) objects.now }
 {
-    let heap = image.heap();
     let mut lasts = [0; PIECE];
     for (i, &begin) in objects.iter().enumerate() {
         lasts[i] = begin + heap.size_at(begin) - 1;
@@ -141,14 +138,14 @@ fn last_words_by_headers(image: &Image, objects: &[u64]) -> [u64; PIECE]
 
 /// The addresses of the last words of a few objects of these sizes, and zeros after them.
 #[inline]
-fn last_words_by_sizes(image: &Image, objects: &[u64], sizes: &[u32; PIECE]) -> [u64; PIECE]
+fn last_words_by_sizes(image: &Listed<'_>, objects: &[u64], sizes: &[u32; PIECE]) -> [u64; PIECE]
     requires valid { IsValid image.now }
     requires few { length objects.now ≤ 64 }
     requires sound { All (HasSoundHeader image.now) objects.now }
     requires sizes { AreSizesOf image.now objects.now sizes.now }
     ensures { take (length objects.now) result ≡ map (λ a. end_of image.now a - 1) objects.now }
 {
-    image_is_valid(image);
+    listed_image_is_valid(image);
     let mut lasts = [0; PIECE];
     for (i, &begin) in objects.iter().enumerate() {
         lasts[i] = begin + u64::from(sizes[i]) - 1;
@@ -157,7 +154,7 @@ fn last_words_by_sizes(image: &Image, objects: &[u64], sizes: &[u32; PIECE]) -> 
 }
 
 /// Turns the end bits of a part of the heap into its live bits, by the begin bits.
-fn turn_ends(image: &Image, begins: &Bits, start: usize, words: &mut [u64])
+fn turn_ends(image: &Listed<'_>, begins: &Bits, start: usize, words: &mut [u64])
     requires valid { IsValid image.now }
     requires begins { AreBegins image.now begins.now }
     requires inside { start + length words.old ≤ bit_words image.now }
@@ -175,7 +172,7 @@ fn turn_ends(image: &Image, begins: &Bits, start: usize, words: &mut [u64])
 }
 
 /// Whether the word at this address belongs to an object that begins below it.
-fn continues_at(image: &Image, address: u64) -> bool
+fn continues_at(image: &Listed<'_>, address: u64) -> bool
     ensures { result ≡ continues_at image.now address }
 {
     let objects = image.live();
@@ -183,8 +180,7 @@ fn continues_at(image: &Image, address: u64) -> bool
     if first == 0 {
         return false;
     }
-    let begin = objects[first - 1];
-    address < begin + image.heap().size_at(begin)
+    address < objects[first - 1] + image.size_of(first - 1)
 }
 
 /// The live bits of a word, by its begin bits and end bits. `carried` is 1 if its first bit belongs to an object that

@@ -5,3 +5,4 @@ pub mod Handles
 pub mod Places
 pub mod Strays
 pub mod Verdicts
+pub mod Slides

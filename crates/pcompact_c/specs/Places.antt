@@ -1,5 +1,5 @@
 -- Where the collection of a handle takes the words of its heap.
-use Rattle.std.specs.Prelude.{◌≡◌, ℕ, ◌&&◌, nat_lt, true, false, if◌then◌else◌, Option, Some, None, MatchOption}
+use Rattle.std.specs.Prelude.{◌≡◌, ℕ, ◌&&◌, nat_lt, true, false, if◌then◌else◌, Option, MatchOption}
 use Rattle.object_heap.specs.HeapImage.{HeapImage, heap_words, is_live_word}
 use Rattle.summary.specs.WordMoves.{slid}
 

@@ -1,5 +1,7 @@
 //! The begin of a collection by several threads.
-ghost use Rattle.std.specs.Prelude.{◌≡◌, ◌<◌, ◌≤◌, ◌⊎◌, false, IsTrue, All, length, vec_len};
+ghost use Rattle.std.specs.Prelude.{◌≡◌, ◌<◌, ◌≤◌, ◌⊎◌, ℕ, List, Option, Some, false, IsTrue, All, length, option_map, vec_len};
+ghost use Rattle.collector.specs.Sessions.{held_of};
+ghost use Rattle.pcompact_c.specs.Slides.{held_in};
 ghost use Rattle.image_streams.specs.declared.fault.Fault.TheVariants.{Memory, Workers};
 ghost use Rattle.object_heap.specs.declared.version.Version.TheVariants.{One, Three};
 ghost use Rattle.object_heap.specs.HeapImage.{HeapImage, IsValid, region_count};
@@ -148,7 +150,7 @@ pub extern "C" fn pcompact_begin_lent_rooted_at(
 }
 
 /// Whether a collection can begin with these handles: they are 1 to 64, and none is held.
-fn are_ready(handles: &mut [PcompactHandle]) -> bool
+pub(crate) fn are_ready(handles: &mut [PcompactHandle]) -> bool
     ensures ready { IsTrue result → AreReady handles.old }
     ensures same { handles.new ≡ handles.old }
 {
@@ -213,11 +215,13 @@ fn deal_lent(
 }
 
 /// Gives each handle one of as many parts.
-fn hand_out(mut parts: Vec<Box<Part, Global>>, handles: &mut [PcompactHandle])
+pub(crate) fn hand_out(mut parts: Vec<Box<Part, Global>>, handles: &mut [PcompactHandle])
     requires free { All (λ h. h.0 ≡ false) handles.old }
     requires count { vec_len parts ≡ length handles.old }
     ensures parts { (image : HeapImage) → (origin : Origin) → All (λ part. IsPartOf image origin part.value) parts.items
         → All (IsHandleOf image origin) handles.new }
+    ensures held { (held : Option (List (List ℕ))) → All (λ part. option_map held_of part.value.share ≡ Some held) parts.items
+        → All (λ h. held_in h ≡ Some held) handles.new }
 {
     for handle in handles.iter_mut() {
         match parts.pop() {

@@ -108,7 +108,7 @@ fn end(
 /// Takes the shares out of these handles, each of which has one, in their order, into a list with room for them. If memory
 /// runs out or there is no list, the shares are dropped. The fault is that of the list, or 11, or 12 for a handle without a
 /// share.
-fn take_shares(
+pub(crate) fn take_shares(
     alloc: Global,
     room: Result<Vec<Share>, Fault>,
     handles: &mut [PcompactHandle],
@@ -127,7 +127,7 @@ fn take_shares(
 }
 
 /// An empty list with room for `count` shares. Fails with fault 11 if memory runs out.
-fn room_for(alloc: Global, count: usize) -> Result<Vec<Share>, Fault>
+pub(crate) fn room_for(alloc: Global, count: usize) -> Result<Vec<Share>, Fault>
     ensures none { IfOk result (λ shares. shares.items ≡ []) }
     ensures fault { IfErr result (λ fault. fault ≡ Memory) }
 {
@@ -148,7 +148,12 @@ fn with_share(
     let Some(part) = part else {
         return Err(Fault::Workers);
     };
-    let Some(share) = Box::into_inner(part).share else {
+    let Part {
+        share,
+        slide: _,
+        origin: _,
+    } = Box::into_inner(part);
+    let Some(share) = share else {
         return Err(Fault::Workers);
     };
     shares.push(share)?;
@@ -234,7 +239,7 @@ fn suit(alloc: Global, handles: &mut [PcompactHandle], regions: usize, numbers: 
 }
 
 /// Whether no words are held.
-fn are_gone(words: &mut [HostWords]) -> bool
+pub(crate) fn are_gone(words: &mut [HostWords]) -> bool
     ensures gone { IsTrue result → All IsGone words.old }
     ensures same { words.new ≡ words.old }
 {
@@ -269,7 +274,7 @@ fn end_shares(
 }
 
 /// Whether these are all handles of one collection, and that has its words from there.
-fn are_all_of_one(alloc: Global, origin: Origin, handles: &mut [PcompactHandle]) -> bool
+pub(crate) fn are_all_of_one(alloc: Global, origin: Origin, handles: &mut [PcompactHandle]) -> bool
     ensures parts { HaveSameParts handles.old handles.new }
     ensures some { IsTrue result → 1 ≤ length handles.old }
     ensures origin { IsTrue result → AreFrom origin handles.old }

@@ -47,6 +47,7 @@ impl PcompactHandle {
     ghost use Rattle.caller_heap.specs.Slots.{redirected_slot};
     ghost use Rattle.pcompact_c.specs.Handles.{image_in, origin_in};
     ghost use Rattle.pcompact_c.specs.Places.{IsNewAddress};
+    ghost use Rattle.pcompact_c.specs.Slides.{plan_in, held_in};
 
     /// A handle without a part: all zeros.
     fn empty() -> PcompactHandle
@@ -169,10 +170,23 @@ impl PcompactHandle {
         it_suits
     }
 
+    /// Whether it has a share of a session with as many regions.
+    pub(crate) fn has_regions(&mut self, alloc: Global, regions: usize) -> bool
+        ensures { self.new.2 ≡ self.old.2 }
+    {
+        let Some(part) = self.leave(alloc) else {
+            return false;
+        };
+        let it_has = part.has_regions(regions);
+        self.enter(part);
+        it_has
+    }
+
     /// Where the collection takes the word at this address, if a live object has it. `None` also if the handle isn't held.
     pub(crate) fn new_address(&mut self, alloc: Global, address: u64) -> Option<u64>
         ensures part { self.new.2 ≡ self.old.2 }
         ensures address { (image : HeapImage) → image_in self.old ≡ Some image → IsNewAddress image address result }
+        ensures planned { (image : HeapImage) → plan_in self.old ≡ Some image → IsNewAddress image address result }
         ensures not_held { self.old.2 ≡ None → result ≡ None }
     {
         let part = self.leave(alloc)?;
@@ -188,7 +202,8 @@ impl PcompactHandle {
     pub(crate) fn redirect(&mut self, alloc: Global, slots: &mut [u64], coding: SlotCoding) -> bool
         ensures part { self.new.2 ≡ self.old.2 }
         ensures slots { (image : HeapImage) → image_in self.old ≡ Some image → (slots.new ≡ map (redirected_slot image coding) slots.old) × (result ≡ true) }
-        ensures not_held { image_in self.old ≡ None → (slots.new ≡ slots.old) × (result ≡ false) }
+        ensures planned { (image : HeapImage) → plan_in self.old ≡ Some image → (slots.new ≡ map (redirected_slot image coding) slots.old) × (result ≡ true) }
+        ensures not_held { image_in self.old ≡ None → plan_in self.old ≡ None → (slots.new ≡ slots.old) × (result ≡ false) }
     {
         let Some(part) = self.leave(alloc) else {
             return false;
@@ -201,8 +216,9 @@ impl PcompactHandle {
     /// Lets the worker fill regions that are ready, at most `turns`. Returns `None` if the handle isn't held.
     pub(crate) fn work(&mut self, alloc: Global, turns: u64) -> Option<Progress>
         ensures image { image_in self.new ≡ image_in self.old }
+        ensures held { held_in self.new ≡ held_in self.old }
         ensures origin { origin_in self.new ≡ origin_in self.old }
-        ensures held { MatchOption result (self.old.2 ≡ None) (λ _. is_some self.old.2 ≡ true) }
+        ensures worked { MatchOption result (self.old.2 ≡ None) (λ _. is_some self.old.2 ≡ true) }
     {
         let mut part = self.leave(alloc)?;
         let progress = part.work(turns);
@@ -213,8 +229,9 @@ impl PcompactHandle {
     /// Lets the worker fill regions until all are settled. Returns `None` if the handle isn't held.
     pub(crate) fn work_all(&mut self, alloc: Global) -> Option<()>
         ensures image { image_in self.new ≡ image_in self.old }
+        ensures held { held_in self.new ≡ held_in self.old }
         ensures origin { origin_in self.new ≡ origin_in self.old }
-        ensures held { MatchOption result (self.old.2 ≡ None) (λ _. is_some self.old.2 ≡ true) }
+        ensures worked { MatchOption result (self.old.2 ≡ None) (λ _. is_some self.old.2 ≡ true) }
     {
         let mut part = self.leave(alloc)?;
         part.work_all();

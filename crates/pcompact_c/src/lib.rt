@@ -22,6 +22,7 @@ mod places;
 mod plan;
 mod raw_box;
 mod references;
+mod slide;
 mod verdict;
 mod verify;
 mod work;
@@ -33,6 +34,7 @@ pub use decode::PcompactHeap;
 pub use fault::PcompactFault;
 pub use handle::PcompactHandle;
 pub use raw_region::HostWords as PcompactWords;
+pub use slide::PcompactOpaqueHeap;
 pub use verdict::PcompactVerdict;
 
 /// The version as `1_000_000 * major + 1_000 * minor + patch`.

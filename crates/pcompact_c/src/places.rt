@@ -4,6 +4,7 @@ ghost use Rattle.object_heap.specs.HeapImage.{HeapImage};
 ghost use Rattle.caller_heap.specs.Slots.{redirected_slot};
 ghost use Rattle.pcompact_c.specs.Handles.{image_in};
 ghost use Rattle.pcompact_c.specs.Places.{new_address_in};
+ghost use Rattle.pcompact_c.specs.Slides.{plan_in};
 
 use crate::handle::PcompactHandle;
 use caller_heap::SlotCoding;
@@ -16,7 +17,7 @@ const REDIRECTED: u32 = 0;
 /// The handle isn't held.
 const NOT_HELD: u32 = 5;
 
-/// Where the collection of a handle takes the word at this address, the first of its object or not: its new address, or
+/// Where the collection of a handle, or the slide that it has planned, takes the word at this address, the first of its object or not: its new address, or
 /// 2^64 - 1 if no live object has such a word, or the handle isn't held.
 #[unsafe(no_mangle)]
 pub extern "C" fn pcompact_new_address(
@@ -26,6 +27,7 @@ pub extern "C" fn pcompact_new_address(
 ) -> u64
     ensures part { handle.new.2 ≡ handle.old.2 }
     ensures address { (image : HeapImage) → image_in handle.old ≡ Some image → result ≡ new_address_in image address }
+    ensures planned { (image : HeapImage) → plan_in handle.old ≡ Some image → result ≡ new_address_in image address }
     ensures not_held { handle.old.2 ≡ None → result ≡ 18446744073709551615 }
 {
     match handle.new_address(alloc, address) {
@@ -35,7 +37,7 @@ pub extern "C" fn pcompact_new_address(
 }
 
 /// Redirects slots that are kept outside of the heap: each that leads to a word of it by this coding leads to where the
-/// collection of the handle takes the word, or becomes `dead` if no live object has it. All others stay. Returns 0, or 5 if the
+/// collection or the planned slide of the handle takes the word, or becomes `dead` if no live object has it. All others stay. Returns 0, or 5 if the
 /// handle isn't held, and then all stay.
 #[unsafe(no_mangle)]
 pub extern "C" fn pcompact_redirect(
@@ -46,7 +48,8 @@ pub extern "C" fn pcompact_redirect(
 ) -> u32
     ensures part { handle.new.2 ≡ handle.old.2 }
     ensures slots { (image : HeapImage) → image_in handle.old ≡ Some image → slots.new ≡ map (redirected_slot image coding) slots.old }
-    ensures not_held { image_in handle.old ≡ None → (slots.new ≡ slots.old) × (result ≡ 5) }
+    ensures planned { (image : HeapImage) → plan_in handle.old ≡ Some image → slots.new ≡ map (redirected_slot image coding) slots.old }
+    ensures not_held { image_in handle.old ≡ None → plan_in handle.old ≡ None → (slots.new ≡ slots.old) × (result ≡ 5) }
     ensures known { (result ≡ 0) ⊎ (result ≡ 5) }
 {
     if handle.redirect(alloc, slots, coding) {

@@ -1,6 +1,7 @@
 //! The work of a thread in a collection by several threads.
 ghost use Rattle.std.specs.Prelude.{◌≡◌, ◌≤◌, ◌⊎◌, ◌↔◌, None};
 ghost use Rattle.pcompact_c.specs.Handles.{image_in, origin_in};
+ghost use Rattle.pcompact_c.specs.Slides.{held_in};
 
 use crate::handle::PcompactHandle;
 use collector::Progress;
@@ -20,6 +21,7 @@ const NOT_HELD: u32 = 5;
 #[unsafe(no_mangle)]
 pub extern "C" fn pcompact_work(alloc: Global, handle: &mut PcompactHandle, turns: u64) -> u32
     ensures image { image_in handle.new ≡ image_in handle.old }
+    ensures held { held_in handle.new ≡ held_in handle.old }
     ensures origin { origin_in handle.new ≡ origin_in handle.old }
     ensures not_held { result ≡ 5 ↔ handle.old.2 ≡ None }
     ensures known { (result ≤ 2) ⊎ (result ≡ 5) }
@@ -35,6 +37,7 @@ pub extern "C" fn pcompact_work(alloc: Global, handle: &mut PcompactHandle, turn
 #[unsafe(no_mangle)]
 pub extern "C" fn pcompact_work_all(alloc: Global, handle: &mut PcompactHandle) -> u32
     ensures image { image_in handle.new ≡ image_in handle.old }
+    ensures held { held_in handle.new ≡ held_in handle.old }
     ensures origin { origin_in handle.new ≡ origin_in handle.old }
     ensures not_held { result ≡ 5 ↔ handle.old.2 ≡ None }
     ensures known { (result ≡ 0) ⊎ (result ≡ 5) }

@@ -27,7 +27,7 @@ use crate::surveyor::Surveyor;
 use counting::count_regions;
 use deferred::deferred_places;
 use heap_image::{Fault, Image};
-use mark_bitmap::Marks;
+use mark_bitmap::{Listed, Marks};
 use raw_region::Region;
 use redirections::Redirections;
 use std::alloc::{AllocError, Global};
@@ -71,6 +71,21 @@ impl Plan {
     pub fn of<S: Surveyor>(
         alloc: Global,
         image: &Image,
+        marks: &Marks,
+        surveyor: &S,
+    ) -> Result<Plan, Fault>
+        requires start { S.may_start }
+        requires marks { marks.now ≡ image.now }
+        ensures plan { IfOk result (λ plan. plan ≡ image.now) }
+        ensures fault { IfErr result (λ fault. fault ≡ Memory) }
+    {
+        Plan::of_listed(alloc, &Listed::of_image(image), marks, surveyor)
+    }
+
+    /// Makes the plan of what is listed, with these marks.
+    pub(crate) fn of_listed<S: Surveyor>(
+        alloc: Global,
+        image: &Listed<'_>,
         marks: &Marks,
         surveyor: &S,
     ) -> Result<Plan, Fault>

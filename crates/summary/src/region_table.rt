@@ -10,7 +10,7 @@ use crate::plan::region_counts::RegionCounts;
 use crate::plan::region_places::RegionPlaces;
 use crate::plan::sources::set_sources;
 use crate::region_row::RegionRow;
-use heap_image::Image;
+use mark_bitmap::{Listed, Surveyed};
 use std::alloc::{AllocError, Global};
 use std::marker::Model;
 use std::snapshot::Snapshot;
@@ -19,7 +19,7 @@ use std::snapshot::Snapshot;
 ///
 /// A contract sees the table as the image that it was made of, as it was then.
 pub(crate) struct RegionTable {
-    image: Snapshot<Image>,
+    image: Snapshot<Surveyed>,
     region_log: u32,
     prefix_end: u64,
     new_top: u64,
@@ -53,7 +53,7 @@ impl RegionTable {
     /// Makes the table of an image from the counts of its regions.
     pub(crate) fn of(
         alloc: Global,
-        image: &Image,
+        image: &Listed<'_>,
         counts: &[RegionCounts],
     ) -> Result<RegionTable, AllocError>
         requires { AreRegionCounts image.now counts.now }
@@ -66,7 +66,7 @@ impl RegionTable {
         } = RegionPlaces::of(alloc, image, counts)?;
         set_sources(image, prefix_end, regions.as_mut_slice());
         Ok(RegionTable {
-            image: Snapshot::of(image),
+            image: image.surveyed(),
             region_log: image.region_log(),
             prefix_end,
             new_top,

@@ -5,7 +5,7 @@ ghost use Rattle.image_streams.specs.declared.fault.Fault.TheVariants.{Memory};
 use crate::plan::Plan;
 use crate::surveyor::Surveyor;
 use heap_image::{Fault, Image};
-use mark_bitmap::Marks;
+use mark_bitmap::{Listed, Marks, OpaqueObjects};
 use std::alloc::Global;
 use std::marker::Model;
 
@@ -44,7 +44,23 @@ impl Survey {
         ensures fault { IfErr result (λ fault. fault ≡ Memory) }
     {
         let marks = Marks::of(alloc, image, surveyor)?;
-        Survey::with_marks(alloc, image, marks, surveyor)
+        Survey::with_marks(alloc, &Listed::of_image(image), marks, surveyor)
+    }
+
+    /// Surveys opaque objects, of which nothing is known but where they lie: their words may change until they are moved.
+    ///
+    /// The only error is [`Fault::Memory`], if an allocation fails.
+    pub fn of_objects<S: Surveyor>(
+        alloc: Global,
+        objects: &OpaqueObjects,
+        surveyor: &S,
+    ) -> Result<Survey, Fault>
+        requires { S.may_start }
+        ensures survey { IfOk result (λ survey. survey ≡ objects.now) }
+        ensures fault { IfErr result (λ fault. fault ≡ Memory) }
+    {
+        let marks = Marks::of_objects(alloc, objects, surveyor)?;
+        Survey::with_marks(alloc, &Listed::of_objects(objects), marks, surveyor)
     }
 
     /// Like [`of`](Survey::of), but the marks take over the bits that reading the image has kept, if it has. What else it
@@ -61,13 +77,13 @@ impl Survey {
     {
         let marks = Marks::taking_over(alloc, image, surveyor)?;
         image.forget_seen();
-        Survey::with_marks(alloc, image, marks, surveyor)
+        Survey::with_marks(alloc, &Listed::of_image(image), marks, surveyor)
     }
 
-    /// Surveys an image with these marks.
+    /// Surveys what is listed, with these marks.
     fn with_marks<S: Surveyor>(
         alloc: Global,
-        image: &Image,
+        image: &Listed<'_>,
         marks: Marks,
         surveyor: &S,
     ) -> Result<Survey, Fault>
@@ -76,7 +92,7 @@ impl Survey {
         ensures survey { IfOk result (λ survey. survey ≡ image.now) }
         ensures fault { IfErr result (λ fault. fault ≡ Memory) }
     {
-        let plan = Plan::of(alloc, image, &marks, surveyor)?;
+        let plan = Plan::of_listed(alloc, image, &marks, surveyor)?;
         Ok(Survey { marks, plan })
     }
 

@@ -5,8 +5,7 @@ ghost use Rattle.summary.specs.RegionPlaces.{AreOwnStarts, AreRegionCounts};
 
 use crate::plan::counting::count_region;
 use crate::plan::region_counts::RegionCounts;
-use heap_image::Image;
-use mark_bitmap::{MarkBuilder, Marks};
+use mark_bitmap::{Listed, MarkBuilder, Marks};
 use std::thread::Threads;
 use thread_row::{Alone, Many, for_each_mut, for_each_mut_alone};
 
@@ -18,7 +17,7 @@ pub trait Surveyor: MarkBuilder {
     /// Counts the live words of each region. `starts` are the regions' own starts.
     fn count_regions(
         &self,
-        image: &Image,
+        image: &Listed<'_>,
         marks: &Marks,
         starts: &[u64],
         counts: &mut [RegionCounts],
@@ -33,7 +32,7 @@ pub trait Surveyor: MarkBuilder {
 impl Surveyor for Alone {
     fn count_regions(
         &self,
-        image: &Image,
+        image: &Listed<'_>,
         marks: &Marks,
         starts: &[u64],
         counts: &mut [RegionCounts],
@@ -48,7 +47,7 @@ impl Surveyor for Alone {
 impl<T: Threads + Sync> Surveyor for Many<'_, T> {
     fn count_regions(
         &self,
-        image: &Image,
+        image: &Listed<'_>,
         marks: &Marks,
         starts: &[u64],
         counts: &mut [RegionCounts],

@@ -38,7 +38,7 @@ thieves_sync = heap.Vec-sync Thief.the_row thief.the_sync
 pub shared_sync : (D : RattleType) (g : HasBoard.Ghosts D.Denot) → IsSync D → IsSync (Shared.the_row D g)
 shared_sync D g desk =
     let T = Shared.the_type D g in
-    let all : AllSync (declared.fields T) = (survey_sync, (desk, (parts.the_field_sync, (thieves_sync, (search (crosses, sendable), tt))))) in
+    let all : AllSync (declared.fields T) = (survey_sync, (desk, (search (crosses, sendable, parts.the_sync) depth 60 fits 20000, (thieves_sync, (search (crosses, sendable), tt))))) in
     recorded_sync (Struct (declared.shape T)) T.D T.to T.to_one (struct_sync (declared.shape T) all)
 
 -- a worker may be joined with its end

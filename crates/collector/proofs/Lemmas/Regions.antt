@@ -29,19 +29,18 @@ block_stays image r count moved kept after =
       | inr above ↦ sym (kept above) ∙ moved
     ]
 
--- the regions have moved if each that was to be filled has
-pub all_moved : (image : HeapImage) (m : MoveTable) (old new : ℕ → List ℕ) (xs : List (List ℕ)) → length xs ≡ region_count image
+-- the regions are as they are to be, if each that was to be filled is, and the others were already
+pub all_become : (image : HeapImage) (m : MoveTable) (old new end : ℕ → List ℕ) (xs : List (List ℕ)) → length xs ≡ region_count image
     → ((r : ℕ) → r < region_count image → slice_index_or xs r [] ≡ (if to_fill m r then new r else old r))
     → ((r : ℕ) → to_fill m r ≡ ltb r (fill_count image))
-    → ((r : ℕ) → r < region_count image → old r ≡ block_of image r)
-    → ((r : ℕ) → r < fill_count image → new r ≡ moved_block image r)
-    → ((r : ℕ) → fill_count image ≤ r → r < region_count image → block_of image r ≡ moved_block image r)
-    → xs ≡ map (moved_block image) (range_with_len 0 (region_count image))
-all_moved image m old new xs long words fills are become stay = blocks_by (moved_block image) (region_count image) xs long each
+    → ((r : ℕ) → r < region_count image → r < fill_count image → new r ≡ end r)
+    → ((r : ℕ) → r < region_count image → fill_count image ≤ r → old r ≡ end r)
+    → xs ≡ map end (range_with_len 0 (region_count image))
+all_become image m old new end xs long words fills become stay = blocks_by end (region_count image) xs long each
   where
-    each : (r : ℕ) → r < region_count image → slice_index_or xs r [] ≡ moved_block image r
+    each : (r : ℕ) → r < region_count image → slice_index_or xs r [] ≡ end r
     each r inside =
         elim (cases_lt r (fill_count image)) [
-          | inl below ↦ words r inside ∙ (ap (λ (b : Bool). if b then new r else old r) (fills r ∙ lt-ltb r (fill_count image) below) ∙ become r below)
-          | inr after ↦ words r inside ∙ (ap (λ (b : Bool). if b then new r else old r) (fills r ∙ le-ltb r (fill_count image) after) ∙ (are r inside ∙ stay r after inside))
+          | inl below ↦ words r inside ∙ (ap (λ (b : Bool). if b then new r else old r) (fills r ∙ lt-ltb r (fill_count image) below) ∙ become r inside below)
+          | inr after ↦ words r inside ∙ (ap (λ (b : Bool). if b then new r else old r) (fills r ∙ le-ltb r (fill_count image) after) ∙ stay r inside after)
         ]

@@ -39,7 +39,7 @@ module _ (id : SessionView) (out : ℕ) (lead : SessionDeed) (all front : List W
         origin = leads.rest;
         parts = refl;
         there = leads.there;
-        image = leads.image;
+        heap = leads.heap;
         queues = leads.queues;
         seated = λ s at. (front_and_last (IsSeated s) all front worker is (leads.seated s at)).1;
         rests = (front_and_last (λ (w : Worker). Rests w.seat.pass) all front worker is leads.at_rest).1;
@@ -54,7 +54,7 @@ module _ (id : SessionView) (out : ℕ) (lead : SessionDeed) (all front : List W
         parts = omega (arith, leads.parts, some);
         same = leads.same;
         there = leads.there;
-        image = leads.image;
+        heap = leads.heap;
         queues = leads.queues;
         seated = λ s at. (front_and_last (IsSeated s) all front worker is (leads.seated s at)).0;
         at_rest = (front_and_last (λ (w : Worker). Rests w.seat.pass) all front worker is leads.at_rest).0;

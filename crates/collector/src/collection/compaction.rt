@@ -1,5 +1,5 @@
 //! The compaction of an image by workers, over any desk.
-ghost use Rattle.std.specs.Prelude.{◌≡◌, ◌<◌, ◌≤◌, ◌↔◌, ◌⊎◌, ℕ, [], All, vec_len, IfOk, IfErr, OnOk, IfSome, IfNone, slice_index_or, length, map, None, Err, if◌then◌else◌};
+ghost use Rattle.std.specs.Prelude.{◌≡◌, ◌<◌, ◌≤◌, ◌↔◌, ◌⊎◌, ℕ, [], All, vec_len, IfOk, IfErr, OnOk, IfSome, IfNone, slice_index_or, length, map, None, is_some, true, Err, if◌then◌else◌};
 ghost use Rattle.std.specs.Vec.{vec_capacity};
 ghost use Rattle.summary.specs.RegionData.{fill_count};
 ghost use Rattle.summary.specs.Compaction.{compact};
@@ -45,6 +45,7 @@ pub(crate) struct Compaction<D: CollectionDesk + Drop> {
     pub(crate) workers: Vec<Worker>,
     /// Empty, with room for the passes of all workers.
     pub(crate) passes: Vec<Pass>,
+    ghost whole: { is_some shared.parts ≡ true },
     ghost handles: { vec_len shared.thieves ≡ vec_len workers },
     ghost count: { worker_count (D.keeps shared.desk) ≡ vec_len workers },
     ghost some: { 0 < vec_len workers },
@@ -103,7 +104,7 @@ impl<D: CollectionDesk + Drop> Compaction<D> {
                 let shared = Shared {
                     survey,
                     desk: D::of(board, equipment),
-                    parts,
+                    parts: Some(parts),
                     thieves,
                     stop: AtomicBool::new(false),
                 };
@@ -218,6 +219,9 @@ impl<D: CollectionDesk + Drop> Compaction<D> {
             parts,
             ..
         } = shared;
+        let Some(parts) = parts else {
+            unreachable!();
+        };
         settled_histories_have_each_once();
         moves_are_lawful(survey.plan());
         let (board, record) = desk.into_parts();

@@ -3,7 +3,7 @@ ghost use Rattle.std.specs.Prelude.{◌≡◌, ◌<◌, ◌≤◌, ◌+◌, All,
 ghost use Rattle.claim_board.specs.Boards.{board_of};
 ghost use Rattle.claim_board.specs.RegionBoards.{identity};
 ghost use Rattle.collector.specs.Rest.{Rests};
-ghost use Rattle.collector.specs.Stakes.{IsStakeOf};
+ghost use Rattle.collector.specs.Stakes.{IsOfHeap, IsStakeOf};
 
 use super::Session;
 use super::session_id::SessionId;
@@ -66,7 +66,7 @@ impl ReturnedStakes {
 
     /// The session and a pass of its board, if all stakes are back.
     pub(crate) fn into_session(self) -> Option<(Session, Pass)>
-        ensures image { IfSome result (λ r. r.0.shared.survey ≡ self.image) }
+        ensures heap { IfSome result (λ r. IsOfHeap self.heap r.0) }
         ensures seated { IfSome result (λ r. board_of r.1 ≡ identity r.0.shared.desk) }
         ensures rests { IfSome result (λ r. Rests r.1) }
     {

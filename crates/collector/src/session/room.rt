@@ -3,8 +3,8 @@ ghost use Rattle.std.specs.Prelude.{◌≡◌, ◌+◌, ◌<◌, ◌≤◌, [], 
 ghost use Rattle.std.specs.Arc.{arc_value};
 ghost use Rattle.std.specs.Vec.{vec_capacity};
 ghost use Rattle.collector.specs.Rest.{Rests, AreOf};
-ghost use Rattle.collector.specs.Sessions.{image_of};
-ghost use Rattle.collector.specs.Stakes.{Leads};
+ghost use Rattle.collector.specs.Sessions.{heap_of};
+ghost use Rattle.collector.specs.Stakes.{IsOfHeap, Leads};
 
 use super::Session;
 use super::returned_stakes::ReturnedStakes;
@@ -12,7 +12,6 @@ use super::session_id::SessionId;
 use super::share::Share;
 use super::stake::SessionDeed;
 use crate::workers::worker::Worker;
-use heap_image::Image;
 use read_shares::{Term, share_out_for};
 use std::alloc::{AllocError, Global};
 use std::mem;
@@ -20,8 +19,8 @@ use std::sync::Arc;
 
 /// The memory of a session of 1 to 64 workers, and of their shares.
 #[derive(Drop)]
-pub(super) struct SessionRoom {
-    id: SessionId,
+pub(crate) struct SessionRoom {
+    pub(crate) id: SessionId,
     term: Term,
     /// `None`, until the session is there.
     session: Box<Option<Session>, Global>,
@@ -39,19 +38,24 @@ pub(super) struct SessionRoom {
 }
 
 impl SessionRoom {
-    /// Takes all memory that the shares of a session of this many workers over an image need.
-    pub(super) fn new(alloc: Global, image: &Image, workers: u32) -> Result<SessionRoom, AllocError>
-        requires some { 1 ≤ workers }
-        requires few { workers ≤ 64 }
-        ensures image { IfOk result (λ room. room.id.image ≡ image.now) }
-        ensures workers { IfOk result (λ room. room.id.workers ≡ workers) }
+    /// Takes all memory that the shares of a session need that will be shared out for this term. `own` is its id again.
+    pub(crate) fn new(
+        alloc: Global,
+        term: Term,
+        id: SessionId,
+        own: SessionId,
+    ) -> Result<SessionRoom, AllocError>
+        requires term { id.origin ≡ term.origin }
+        requires same { own ≡ id }
+        requires some { 1 ≤ id.workers }
+        requires few { id.workers ≤ 64 }
+        ensures { IfOk result (λ room. room.id ≡ id) }
     {
-        let term = Term::new();
-        let id = SessionId::of(image, &term, workers);
+        let workers = id.workers();
         let Ok(session) = Box::new(alloc, None) else {
             return Err(AllocError);
         };
-        let returned = owners(alloc, SessionId::of(image, &term, workers))?;
+        let returned = owners(alloc, own)?;
         let shares = Vec::with_capacity(alloc, workers as usize)?;
         Ok(SessionRoom {
             id,
@@ -63,14 +67,14 @@ impl SessionRoom {
     }
 
     /// Puts a session into its room, and deals it to its workers. Takes no memory.
-    pub(super) fn deal(self, session: Session, workers: Vec<Worker>) -> Vec<Share>
-        requires image { session.shared.survey ≡ self.id.image }
+    pub(crate) fn deal(self, session: Session, workers: Vec<Worker>) -> Vec<Share>
+        requires heap { IsOfHeap self.id.heap session }
         requires count { vec_len workers ≡ self.id.workers }
         requires queues { vec_len workers ≤ vec_len session.shared.thieves }
         requires seats { AreOf session.shared.desk workers.items }
         requires rest { All (λ w. Rests w.seat.pass) workers.items }
         ensures count { vec_len result ≡ vec_len workers }
-        ensures image { All (λ share. image_of share ≡ session.shared.survey) result.items }
+        ensures heap { All (λ share. heap_of share ≡ self.id.heap) result.items }
     {
         let SessionRoom {
             id,
@@ -119,7 +123,7 @@ fn deal_out(
     requires returned { All (λ r. arc_value r ≡ id.now) room.0.items × (vec_len room.0 ≡ id.now.workers) }
     requires room { (room.1.items ≡ []) × (id.now.workers ≤ vec_capacity room.1) }
     ensures count { vec_len result ≡ id.now.workers }
-    ensures image { All (λ share. image_of share ≡ id.now.image) result.items }
+    ensures heap { All (λ share. heap_of share ≡ id.now.heap) result.items }
 {
     let (mut returned, mut shares) = room;
     while workers.len() > 1 {

@@ -8,18 +8,20 @@ ghost use Rattle.claim_board.specs.RegionBoards.{identity};
 ghost use Rattle.collector.specs.Collections.{figures_of};
 ghost use Rattle.collector.specs.NewPlaces.{IsNewPlace};
 ghost use Rattle.collector.specs.Rest.{Rests};
-ghost use Rattle.collector.specs.Stakes.{IsStake};
+ghost use Rattle.collector.specs.Slides.{slid_regions};
+ghost use Rattle.collector.specs.Stakes.{IsOfHeap, IsStake};
 
 use super::Session;
 use super::new_place::{NewPlace, place_in};
 use super::progress::Progress;
 use super::returned_stakes::ReturnedStakes;
 use super::stake::{SessionDeed, Stake};
-use crate::outcome::Outcome;
+use crate::outcome::{Figures, Outcome};
 use crate::workers::worker::Worker;
 use claim_board::Pass;
 use crossbeam_utils::Backoff;
 use heap_image::{Fault, Image};
+use raw_region::Region;
 use read_shares::ReadShare;
 use std::alloc::Global;
 use std::sync::Arc;
@@ -43,7 +45,7 @@ impl Drop for Share {
 }
 
 impl Share {
-    ghost use Rattle.collector.specs.Sessions.{image_of};
+    ghost use Rattle.collector.specs.Sessions.{heap_of, image_of, held_of};
 
     /// The part of the worker with this number, which has not begun. It will leave its stake there.
     pub(crate) fn new(
@@ -69,7 +71,7 @@ impl Share {
     /// Fills regions that are ready, at most `turns`. Returns at once if none is ready. Allocates nothing, never waits, and
     /// can't fail.
     pub fn work(&mut self, turns: u64) -> Progress
-        ensures { image_of self.new ≡ image_of self.old }
+        ensures { heap_of self.new ≡ heap_of self.old }
     {
         let Some(session) = self.session.get() else {
             unreachable!();
@@ -79,7 +81,7 @@ impl Share {
 
     /// Fills regions until all are settled, and spins while none is ready. Allocates nothing, and can't fail.
     pub fn work_all(&mut self)
-        ensures { image_of self.new ≡ image_of self.old }
+        ensures { heap_of self.new ≡ heap_of self.old }
     {
         let backoff = Backoff::new();
         for _ in 0..u64::MAX {
@@ -110,6 +112,29 @@ impl Share {
         };
         match ended {
             Some(outcome) => Ok(outcome),
+            None => Err(Fault::Workers),
+        }
+    }
+
+    /// Ends a session that slides opaque objects, and returns its regions and figures, as [`end`](Share::end) does an image's.
+    /// References are the host's: nothing in the objects is redirected.
+    ///
+    /// Fails with fault 12 if these aren't all shares of one such session. The regions are lost then.
+    pub fn end_slide(mut self, others: Vec<Share>) -> Result<(Vec<Region>, Figures), Fault>
+        ensures words { IfOk result (λ done. IfSome (held_of self) (λ blocks. done.0.items ≡ slid_regions (image_of self) blocks)) }
+        ensures figures { IfOk result (λ done. done.1 ≡ figures_of (image_of self)) }
+        ensures fault { IfErr result (λ fault. fault ≡ Fault.Workers) }
+    {
+        if self.workers() != others.len() + 1 {
+            return Err(Fault::Workers);
+        }
+        self.fill_rest();
+        drop(others);
+        let Some((session, pass)) = self.into_session() else {
+            return Err(Fault::Workers);
+        };
+        match session.finish_slide(pass) {
+            Some(done) => Ok(done),
             None => Err(Fault::Workers),
         }
     }
@@ -175,7 +200,7 @@ impl Share {
 
     /// Fills what is left to fill, once no other share works.
     fn fill_rest(&mut self)
-        ensures { image_of self.new ≡ image_of self.old }
+        ensures { heap_of self.new ≡ heap_of self.old }
     {
         let Some(session) = self.session.get() else {
             unreachable!();
@@ -185,7 +210,7 @@ impl Share {
 
     /// The session whose last share this is, and a pass of its board.
     fn into_session(self) -> Option<(Session, Pass)>
-        ensures image { IfSome result (λ r. r.0.shared.survey ≡ image_of self) }
+        ensures heap { IfSome result (λ r. IsOfHeap (heap_of self) r.0) }
         ensures seated { IfSome result (λ r. board_of r.1 ≡ identity r.0.shared.desk) }
         ensures rests { IfSome result (λ r. Rests r.1) }
     {

@@ -4,7 +4,7 @@ ghost use Rattle.claim_board.specs.Boards.{board_of};
 ghost use Rattle.claim_board.specs.RegionBoards.{identity};
 ghost use Rattle.collector.specs.Rest.{Rests};
 ghost use Rattle.collector.specs.SessionIds.{SessionView};
-ghost use Rattle.collector.specs.Stakes.{IsStakeOf};
+ghost use Rattle.collector.specs.Stakes.{IsOfHeap, IsStakeOf};
 
 use super::Session;
 use super::session_id::SessionId;
@@ -50,7 +50,7 @@ impl Stake {
     /// back. `None` if it hasn't.
     pub(crate) fn into_session(self) -> Option<(Session, Pass)>
         requires { (id : SessionView) × IsStakeOf id id.workers self }
-        ensures image { (id : SessionView) → IsStakeOf id id.workers self → IfSome result (λ r. r.0.shared.survey ≡ id.image) }
+        ensures heap { (id : SessionView) → IsStakeOf id id.workers self → IfSome result (λ r. IsOfHeap id.heap r.0) }
         ensures seated { IfSome result (λ r. board_of r.1 ≡ identity r.0.shared.desk) }
         ensures rests { IfSome result (λ r. Rests r.1) }
     {

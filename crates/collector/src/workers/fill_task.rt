@@ -222,12 +222,18 @@ impl<D: Desk<W> + Drop, G: Gate, W: RetryPolicy> FillTask<'_, '_, D, G, W> {
     {
         regions_to_fill();
         planned_image_is_valid(self.shared.survey.plan());
-        let Shared { survey, desk, .. } = self.shared;
+        let Shared {
+            survey,
+            desk,
+            parts,
+            ..
+        } = self.shared;
         let region = claimed.ticket.region();
         let filler = Filler {
             desk,
             survey,
             wait: self.wait,
+            redirects: parts.is_some(),
         };
         let done = filler.fill_region(seat, claimed.take(), &mut on_last);
         self.gate.after_complete(number, region);

@@ -13,6 +13,7 @@ use Rattle.raw_region.specs.Region.{part, with_words as put}
 use Rattle.fill.specs.WordBlocks.{IsSplitAt, Shows}
 use Rattle.summary.specs.Compaction.{word_by}
 use Rattle.fill.specs.CopiedWords.{copied_word}
+use Rattle.fill.specs.SlidWords.{held_word, word_from, slid_word}
 use Rattle.fill.proofs.Lemmas.Writing.{split_more, length-part, get_or-part}
 
 module _ (law : PlanLaws) (image : HeapImage) where
@@ -54,7 +55,7 @@ module _ (law : PlanLaws) (image : HeapImage) where
   pub slid-monotone : (a b : ℕ) → B ≤ a → a ≤ b → slid image a ≤ slid image b
   slid-monotone a b l m = let e = slid-from a b l m in omega arith
 
-  carried-none : (q : ℕ) → carried image (λ _. false) q ≡ word_at image q
+  pub carried-none : (q : ℕ) → carried image (λ _. false) q ≡ word_at image q
   carried-none q = cond-false (list_any (λ a. is_reference_of image a q && false) image.live) (redirected_word image (word_at image q)) (word_at image q) (none image.live)
     where
       none : (xs : List ℕ) → list_any (λ a. is_reference_of image a q && false) xs ≡ false
@@ -67,10 +68,14 @@ module _ (law : PlanLaws) (image : HeapImage) where
   pub word_by-below : (test : ℕ → Bool) (p : ℕ) (o : Option ℕ) → p < new_top image → origin image p ≡ o → word_by image test p ≡ written image test o p
   word_by-below test p o l e = cond-true (ltb p (new_top image)) (written image test (origin image p) p) (word_at image p) (lt-ltb p (new_top image) l) ∙ ap (λ o. written image test o p) e
 
-module _ (law : PlanLaws) (image : HeapImage) (sound : HasLiveList image) where
-  abbrev P : ℕ
-  P = prefix_end image
+module _ (image : HeapImage) (held : ℕ → List ℕ) where
+  pub slid_word-above : (p : ℕ) → new_top image ≤ p → slid_word image held p ≡ held_word image held p
+  slid_word-above p l = cond-false (ltb p (new_top image)) (word_from image held (origin image p) p) (held_word image held p) (le-ltb p (new_top image) l)
 
+  pub slid_word-below : (p : ℕ) (o : Option ℕ) → p < new_top image → origin image p ≡ o → slid_word image held p ≡ word_from image held o p
+  slid_word-below p o l e = cond-true (ltb p (new_top image)) (word_from image held (origin image p) p) (held_word image held p) (lt-ltb p (new_top image) l) ∙ ap (λ o. word_from image held o p) e
+
+module _ (law : PlanLaws) (image : HeapImage) (sound : HasLiveList image) where
   pub slid-all : slid image (heap_words image) ≡ new_top image
   slid-all = let e = law.new_top-live_words image sound in let l = law.prefix_end-le image sound in law.slid-high image (heap_words image) l ∙ sym e
 
@@ -81,37 +86,51 @@ module _ (law : PlanLaws) (image : HeapImage) (sound : HasLiveList image) where
   pub copied-slid : (q : ℕ) → is_live_word image q ≡ true → copied_word image (slid image q) ≡ word_at image q
   copied-slid q live = word_by-slid (λ _. false) q live ∙ carried-none law image q
 
+module _ (law : PlanLaws) (image : HeapImage) (sound : HasLiveList image) (held : ℕ → List ℕ) where
+  abbrev P : ℕ
+  P = prefix_end image
+
+  abbrev f : ℕ → ℕ
+  f = slid_word image held
+
+  abbrev g : ℕ → ℕ
+  g = held_word image held
+
+  -- the new address of a live word gets the word that is held there
+  pub slid_word-slid : (q : ℕ) → is_live_word image q ≡ true → f (slid image q) ≡ g q
+  slid_word-slid q live = slid_word-below image held (slid image q) (Some q) (law.slid-below image sound q live) (law.origin-slid image sound q (law.live_below image sound q live) live)
+
   -- so the new addresses of a run get its words
-  pub copied-run : (a n p : ℕ) → P ≤ a → p ≡ slid image a → ((q : ℕ) → a ≤ q → q < a + n → is_live_word image q ≡ true) → (j : ℕ) → j < n → copied_word image (p + j) ≡ word_at image (a + j)
-  copied-run a n p l e live j m =
+  pub slid_word-run : (a n p : ℕ) → P ≤ a → p ≡ slid image a → ((q : ℕ) → a ≤ q → q < a + n → is_live_word image q ≡ true) → (j : ℕ) → j < n → f (p + j) ≡ g (a + j)
+  slid_word-run a n p l e live j m =
       let to = slid-run law image a j l (λ q b c. live q b (omega arith)) in
       let same : p + j ≡ slid image (a + j) = omega arith in
-      ap (copied_word image) same ∙ copied-slid (a + j) (live (a + j) (omega arith) (omega arith))
+      ap f same ∙ slid_word-slid (a + j) (live (a + j) (omega arith) (omega arith))
 
   -- a run of live words written at its new address
-  pub split_run : (start : ℕ) (xs zs : List ℕ) (a n p : ℕ) → IsSplitAt (copied_word image) (word_at image) start xs p → P ≤ a → p ≡ slid image a
+  pub split_run : (start : ℕ) (xs zs : List ℕ) (a n p : ℕ) → IsSplitAt f g start xs p → P ≤ a → p ≡ slid image a
       → ((q : ℕ) → a ≤ q → q < a + n → is_live_word image q ≡ true) → start ≤ p → p + n ≤ start + length xs
-      → length zs ≡ n → ((j : ℕ) → j < n → get_or zs j 0 ≡ word_at image (a + j)) → IsSplitAt (copied_word image) (word_at image) start (put xs (p - start) zs) (p + n)
+      → length zs ≡ n → ((j : ℕ) → j < n → get_or zs j 0 ≡ g (a + j)) → IsSplitAt f g start (put xs (p - start) zs) (p + n)
   split_run start xs zs a n p h l e live low high long each =
       let same : p + length zs ≡ p + n = omega arith in
-      subst (IsSplitAt (copied_word image) (word_at image) start (put xs (p - start) zs)) same
-      (split_more (copied_word image) (word_at image) start xs zs p h low (omega arith) (λ j m. each j (omega arith) ∙ sym (copied-run a n p l e live j (omega arith))))
+      subst (IsSplitAt f g start (put xs (p - start) zs)) same
+      (split_more f g start xs zs p h low (omega arith) (λ j m. each j (omega arith) ∙ sym (slid_word-run a n p l e live j (omega arith))))
 
   -- the same for a part of a source that begins at `first`
-  pub split_copy : (start : ℕ) (xs : List ℕ) (first : ℕ) (ys : List ℕ) (a n p : ℕ) → IsSplitAt (copied_word image) (word_at image) start xs p → Shows (word_at image) first ys → P ≤ a → p ≡ slid image a
+  pub split_copy : (start : ℕ) (xs : List ℕ) (first : ℕ) (ys : List ℕ) (a n p : ℕ) → IsSplitAt f g start xs p → Shows g first ys → P ≤ a → p ≡ slid image a
       → ((q : ℕ) → a ≤ q → q < a + n → is_live_word image q ≡ true) → start ≤ p → p + n ≤ start + length xs → first ≤ a → a + n ≤ first + length ys
-      → IsSplitAt (copied_word image) (word_at image) start (put xs (p - start) (part ys (a - first) n)) (p + n)
+      → IsSplitAt f g start (put xs (p - start) (part ys (a - first) n)) (p + n)
   split_copy start xs first ys a n p h shows l e live low high under over =
       split_run start xs (part ys (a - first) n) a n p h l e live low high (length-part ys (a - first) n (omega arith)) (λ j m.
       let same : first + (a - first + j) ≡ a + j = omega arith in
-      get_or-part ys (a - first) n j m ∙ shows (a - first + j) (omega arith) ∙ ap (word_at image) same)
+      get_or-part ys (a - first) n j m ∙ shows (a - first + j) (omega arith) ∙ ap g same)
 
   -- the same for words of the block itself that are not yet overwritten
-  pub split_slide : (start : ℕ) (xs : List ℕ) (a n p : ℕ) → IsSplitAt (copied_word image) (word_at image) start xs p → P ≤ a → p ≡ slid image a
+  pub split_slide : (start : ℕ) (xs : List ℕ) (a n p : ℕ) → IsSplitAt f g start xs p → P ≤ a → p ≡ slid image a
       → ((q : ℕ) → a ≤ q → q < a + n → is_live_word image q ≡ true) → start ≤ p → a + n ≤ start + length xs
-      → IsSplitAt (copied_word image) (word_at image) start (put xs (p - start) (part xs (a - start) n)) (p + n)
+      → IsSplitAt f g start (put xs (p - start) (part xs (a - start) n)) (p + n)
   split_slide start xs a n p h l e live low over =
       let down = law.slid-le image a in
       split_run start xs (part xs (a - start) n) a n p h l e live low (omega arith) (length-part xs (a - start) n (omega arith)) (λ j m.
       let same : start + (a - start + j) ≡ a + j = omega arith in
-      get_or-part xs (a - start) n j m ∙ h.above (a - start + j) (omega arith) (omega arith) ∙ ap (word_at image) same)
+      get_or-part xs (a - start) n j m ∙ h.above (a - start + j) (omega arith) (omega arith) ∙ ap g same)

@@ -8,16 +8,16 @@ use Rattle.summary.specs.PlanLaws.{PlanLaws}
 use Rattle.fill.proofs.Lemmas.Regions.{region_is, region_apart, region_low, region_high, region_some}
 use Rattle.std.specs.Prelude.{Some}
 use Rattle.std.proofs.lemmas.Bool.{false_from_ne_true}
-use Rattle.summary.specs.RegionData.{source, destination}
+use Rattle.summary.specs.RegionData.{source, destination, fill_count}
 use Rattle.fill.proofs.Lemmas.Lists.{same_Bool}
 use Rattle.fill.specs.WordBlocks.{IsSplitAt, Shows}
 use Rattle.std.proofs.lemmas.List.{ext_get_or}
 use Rattle.std.specs.Prelude.{map}
 use Rattle.std.proofs.lemmas.List.FromFn.{get_or-map-range_with_len, length-map-range_with_len}
-use Rattle.summary.specs.Compaction.{moved_word}
 use Rattle.summary.specs.RegionData.{region_addresses}
-use Rattle.fill.specs.CopiedWords.{copied_word, written_to, reaches}
-use Rattle.fill.proofs.Lemmas.Slides.{slid-monotone, slid-all, word_by-above}
+use Rattle.fill.specs.CopiedWords.{written_to, reaches}
+use Rattle.fill.specs.SlidWords.{held_word, slid_word}
+use Rattle.fill.proofs.Lemmas.Slides.{slid-monotone, slid-all, slid_word-above}
 use Rattle.std.proofs.lemmas.Nat.{mul-le, div-add-mod'}
 use Rattle.fill.proofs.Lemmas.Writing.{split_skip, split_all, length-part, get_or-part}
 
@@ -115,12 +115,12 @@ module _ (law : PlanLaws) (image : HeapImage) (sound : HasLiveList image) where
   written_to-own d = let down = law.slid-le image (start_of image d) in omega arith
 
   -- once all live words are written, so is the region
-  pub written_to-all : (start : ℕ) (xs : List ℕ) (p : ℕ) → length xs ≡ R → p ≡ written_to image start (heap_words image)
-      → IsSplitAt (copied_word image) (word_at image) start xs p → Shows (copied_word image) start xs
-  written_to-all start xs p long e h =
+  pub written_to-all : (held : ℕ → List ℕ) (start : ℕ) (xs : List ℕ) (p : ℕ) → length xs ≡ R → p ≡ written_to image start (heap_words image)
+      → IsSplitAt (slid_word image held) (held_word image held) start xs p → Shows (slid_word image held) start xs
+  written_to-all held start xs p long e h =
       let all = slid-all law image sound in
-      let skipped = split_skip (copied_word image) (word_at image) start xs p (start + R) h (omega arith) (λ a l m n. sym (word_by-above law image (λ _. false) a (omega arith))) in
-      split_all (copied_word image) (word_at image) start xs (start + R) skipped (omega arith)
+      let skipped = split_skip (slid_word image held) (held_word image held) start xs p (start + R) h (omega arith) (λ a l m n. sym (slid_word-above image held a (omega arith))) in
+      split_all (slid_word image held) (held_word image held) start xs (start + R) skipped (omega arith)
 
 module _ (image : HeapImage) (valid : IsValid image) where
   abbrev N : ℕ
@@ -145,14 +145,17 @@ module _ (image : HeapImage) (valid : IsValid image) where
   pub length_start : (d : ℕ) → d < region_count image → length (block_of image d) ≡ S
   length_start d l = length-part image.words (start_of image d) S (region_fits d l)
 
-  -- a region that shows the moved words has its moved words
-  pub shows_moved : (d : ℕ) (xs : List ℕ) → length xs ≡ S → Shows (moved_word image) (start_of image d) xs → xs ≡ map (moved_word image) (region_addresses image d)
-  shows_moved d xs long h =
-      let all = length-map-range_with_len (moved_word image) (start_of image d) S in
-      ext_get_or 0 xs (map (moved_word image) (region_addresses image d)) (long ∙ sym all) (λ k m.
-      h k m ∙ sym (get_or-map-range_with_len (moved_word image) (start_of image d) S k (start_of image d + k) 0 (omega arith) refl))
+  -- a region that shows the words of f has these words
+  pub shows_block : (f : ℕ → ℕ) (d : ℕ) (xs : List ℕ) → length xs ≡ S → Shows f (start_of image d) xs → xs ≡ map f (region_addresses image d)
+  shows_block f d xs long h =
+      let all = length-map-range_with_len f (start_of image d) S in
+      ext_get_or 0 xs (map f (region_addresses image d)) (long ∙ sym all) (λ k m.
+      h k m ∙ sym (get_or-map-range_with_len f (start_of image d) S k (start_of image d + k) 0 (omega arith) refl))
 
 module _ (law : PlanLaws) (image : HeapImage) (valid : IsValid image) where
+  pub to_fill-below : (d : ℕ) → start_of image d < new_top image → d < fill_count image
+  to_fill-below d l = ltb-true d (fill_count image) (sym (law.to_fill-count image d) ∙ lt-ltb (start_of image d) (new_top image) l)
+
   pub to_fill-inside : (d : ℕ) → start_of image d < new_top image → d < region_count image
   to_fill-inside d l = elim (cases_lt d (region_count image)) [
     | inl less ↦ less
@@ -182,12 +185,12 @@ module _ (law : PlanLaws) (image : HeapImage) (valid : IsValid image) where
       written_to-gap d s (t - s) l m (omega arith) (λ u a b. unread u a (omega arith)) ∙ ap (λ r. written_to image (start_of image d) (start_of image r)) e
 
   -- a region written up to the words of its last source is written whole
-  pub written_to-last : (d from to : ℕ) (xs : List ℕ) → prefix_end image ≤ start_of image d → d < from → from ≤ region_count image
+  pub written_to-last : (held : ℕ → List ℕ) (d from to : ℕ) (xs : List ℕ) → prefix_end image ≤ start_of image d → d < from → from ≤ region_count image
       → ((t : ℕ) → from ≤ t → t < region_count image → reads image d t ≡ false) → to ≡ written_to image (start_of image d) (start_of image from)
-      → length xs ≡ region_words image → IsSplitAt (copied_word image) (word_at image) (start_of image d) xs to → Shows (copied_word image) (start_of image d) xs
-  written_to-last d from to xs l own within last place long h =
+      → length xs ≡ region_words image → IsSplitAt (slid_word image held) (held_word image held) (start_of image d) xs to → Shows (slid_word image held) (start_of image d) xs
+  written_to-last held d from to xs l own within last place long h =
       let rest = written_to-between d from (region_count image) l (omega arith) within (omega arith) last ∙ ap (written_to image (start_of image d)) (all_regions image valid) in
-      written_to-all law image valid.live_list (start_of image d) xs to long (place ∙ rest) h
+      written_to-all law image valid.live_list held (start_of image d) xs to long (place ∙ rest) h
 
   -- the words for a region lie below the region after its last source
   pub reached-last : (d from p : ℕ) → prefix_end image ≤ start_of image d → d < from → from ≤ region_count image

@@ -1,15 +1,18 @@
 ghost use Rattle.std.specs.Prelude.{◌≡◌, ℕ, ◌+◌, ◌-◌, ◌^◌, ◌<◌, ◌≤◌, false};
-ghost use Rattle.object_heap.specs.HeapImage.{region_count, start_of, block_of};
+ghost use Rattle.object_heap.specs.HeapImage.{region_count, start_of};
 ghost use Rattle.summary.specs.NewAddresses.{prefix_end};
 ghost use Rattle.summary.specs.WordMoves.{reads};
 ghost use Rattle.summary.specs.Compaction.{moved_word};
+ghost use Rattle.claim_board.specs.RegionBoards.{original_words};
 ghost use Rattle.fill.specs.WordBlocks.{IsSplitAt, Shows};
 ghost use Rattle.fill.specs.CopiedWords.{copied_word, reaches};
+ghost use Rattle.fill.specs.SlidWords.{AreWhole};
 ghost use Rattle.fill.specs.Objects.{IsBetween};
 ghost use Rattle.fill.specs.WrittenWords.{Becomes, IsBlockOf, IsUnwritten, IsCopied, IsMoved};
 ghost use Rattle.fill.specs.SourceRegions.{IsNextOtherSource};
 
 use super::site::Site;
+use claim_board::RegionBoard;
 use heap_image::header::size;
 use raw_region::Region;
 use summary::laws::plan_laws;
@@ -21,11 +24,14 @@ fn reaches(start: u64, limit: u64, first: u64, after: u64) -> bool
     first < limit && (start < after && first < after)
 }
 
-/// A region after the dense prefix, which is filled with its own words and those of regions above it.
+/// A region after the dense prefix, which is filled with its own words and those of regions above it, all of which the
+/// board keeps.
 #[derive(Drop)]
 pub(crate) struct AfterPrefix<'a> {
     pub(crate) site: Site<'a>,
+    pub(crate) board: &'a RegionBoard,
     pub(crate) ghost after_prefix: { prefix_end site.guide.now ≤ start_of site.guide.now site.region },
+    pub(crate) ghost whole: { AreWhole site.guide.now (original_words board.now) },
 }
 
 impl AfterPrefix<'_> {
@@ -43,8 +49,8 @@ impl AfterPrefix<'_> {
 
     /// Slides the region's own words down. Returns the address up to which the region is written.
     pub(crate) fn slide_own(&self, words: &mut Region) -> u64
-        requires { IsUnwritten self.now.site.guide.now self.now.site.region words.old }
-        ensures { Becomes (IsCopied self.now.site.guide.now self.now.site.region (self.now.site.region + 1) result) words.old words.new }
+        requires { IsUnwritten (original_words self.now.board.now) self.now.site.region words.old }
+        ensures { Becomes (IsCopied self.now.site.guide.now (original_words self.now.board.now) self.now.site.region (self.now.site.region + 1) result) words.old words.new }
     {
         plan_laws();
         let guide = self.site.guide;
@@ -69,10 +75,10 @@ impl AfterPrefix<'_> {
     /// Copies the words that come from source `s`. On entry the words from all regions below `s` are copied, and the
     /// region is written up to `to`. Returns the address up to which it is written afterwards.
     pub(crate) fn copy_source(&self, source: &Region, s: u32, words: &mut Region, to: u64) -> u64
-        requires source { source.now ≡ block_of self.now.site.guide.now s }
-        requires next { (from : ℕ) × IsNextOtherSource self.now.site.guide.now self.now.site.region from s × IsCopied self.now.site.guide.now self.now.site.region from to words.old }
+        requires source { source.now ≡ original_words self.now.board.now s }
+        requires next { (from : ℕ) × IsNextOtherSource self.now.site.guide.now self.now.site.region from s × IsCopied self.now.site.guide.now (original_words self.now.board.now) self.now.site.region from to words.old }
         ensures more { (to ≤ result) × (result - to < 2 ^ 32) }
-        ensures copied { Becomes (IsCopied self.now.site.guide.now self.now.site.region (s + 1) result) words.old words.new }
+        ensures copied { Becomes (IsCopied self.now.site.guide.now (original_words self.now.board.now) self.now.site.region (s + 1) result) words.old words.new }
     {
         plan_laws();
         let guide = self.site.guide;
@@ -91,13 +97,14 @@ impl AfterPrefix<'_> {
         to
     }
 
-    /// Redirects the references of the live objects that lie wholly in the region. The words from all regions below
-    /// `from` are copied, the region is written up to `to`, and the other regions have no words for it.
-    pub(crate) fn redirect_objects(&self, words: &mut Region, from: u32, to: u64)
+    /// Redirects the references of the live objects that lie wholly in the region. All words for it are copied, and the
+    /// regions from `from` on have none.
+    pub(crate) fn redirect_objects(&self, words: &mut Region, from: u32)
         requires own { self.now.site.region < from }
         requires within { from ≤ region_count self.now.site.guide.now }
         requires last { (t : ℕ) → from ≤ t → t < region_count self.now.site.guide.now → reads self.now.site.guide.now self.now.site.region t ≡ false }
-        requires copied { IsCopied self.now.site.guide.now self.now.site.region from to words.old }
+        requires block { IsBlockOf self.now.site.guide.now words.old }
+        requires copied { Shows (copied_word self.now.site.guide.now) self.now.site.span.start words.old }
         ensures { Becomes (IsMoved self.now.site.guide.now self.now.site.region) words.old words.new }
     {
         plan_laws();

@@ -1,17 +1,22 @@
-ghost use Rattle.std.specs.Prelude.{◌≡◌, ◌<◌, ◌^◌, []};
+ghost use Rattle.std.specs.Prelude.{◌≡◌, ℕ, ◌<◌, ◌≤◌, ◌^◌, false, []};
 ghost use Rattle.std.specs.Box.{box_allocator};
-ghost use Rattle.object_heap.specs.HeapImage.{region_count, block_of};
+ghost use Rattle.std.proofs.Props.{props};
+ghost use Rattle.object_heap.specs.HeapImage.{region_count};
 ghost use Rattle.summary.specs.NewAddresses.{prefix_end};
+ghost use Rattle.summary.specs.WordMoves.{reads};
 ghost use Rattle.summary.specs.RegionData.{fill_count};
 ghost use Rattle.scheduler.specs.ImageMoves.{image_table};
 ghost use Rattle.claim_board.specs.Boards.{board_of, caller, held};
-ghost use Rattle.claim_board.specs.RegionBoards.{moves as moves_of, identity, spot, Holds};
+ghost use Rattle.claim_board.specs.RegionBoards.{moves as moves_of, identity, original_words, moved_words, spot, Holds};
 ghost use Rattle.claim_board.specs.Tickets.{IsUnused, IsTicketOf, IsDoneOf};
-ghost use Rattle.fill.specs.WrittenWords.{Becomes, IsUnwritten, IsMoved};
-ghost use Rattle.fill.specs.KeptImages.{KeepsImage};
+ghost use Rattle.fill.specs.WordBlocks.{Shows};
+ghost use Rattle.fill.specs.SlidWords.{slid_word};
+ghost use Rattle.fill.specs.WrittenWords.{IsBlockOf, IsUnwritten};
+ghost use Rattle.fill.specs.KeptImages.{Keeps};
 ghost use Rattle.fill.specs.FillTickets.{IsUnopened, IsSpent};
 ghost use Rattle.fill.specs.SourceDrains.{ReportsLast, other_sources_below, HasDrained, HasFilled};
 
+use super::after_prefix::AfterPrefix;
 use super::guide::Guide;
 use super::site::Site;
 use box_row::InRow;
@@ -26,15 +31,20 @@ use summary::laws::plan_laws;
 use summary::laws::readers::reads_by_words;
 use summary::laws::region_data::regions_to_fill;
 
-/// What all fills of one collection share: the desk, whose board keeps the regions of the image, the survey of that image, and
-/// what the desk may need to wait.
+/// What all fills of one collection share: the desk, whose board keeps the regions, the survey of an image, and what the desk
+/// may need to wait.
+///
+/// The survey says where live words lie and where they go. The words are those that the board keeps: the image's own, or
+/// those of opaque objects, which lie where the image's objects do.
 #[derive(Drop)]
 pub struct Filler<'a, D: Desk<W>, W> {
     pub desk: &'a D,
     pub survey: &'a Survey,
     pub wait: &'a W,
-    /// The board keeps the surveyed image.
-    pub ghost keeps: { KeepsImage survey.now (D.keeps desk.now) },
+    /// Whether objects have headers, and references to redirect; opaque ones have neither.
+    pub redirects: bool,
+    /// The board keeps the surveyed image, or opaque objects in its places.
+    pub ghost keeps: { Keeps redirects survey.now (D.keeps desk.now) } by { Prim.hlevel props },
 }
 
 impl<D: Desk<W>, W> Filler<'_, D, W> {
@@ -55,7 +65,7 @@ impl<D: Desk<W>, W> Filler<'_, D, W> {
         requires unused { IsUnused claimed.0.ticket }
         requires ticket { IsTicketOf (moves_of (D.keeps self.now.desk.now)) (caller seat.old.pass) claimed.0.ticket }
         requires holds { Holds (D.keeps self.now.desk.now) claimed.0 seat.old.pass }
-        requires words { claimed.1.value ≡ block_of self.now.survey.now claimed.0.ticket.region }
+        requires words { claimed.1.value ≡ original_words (D.keeps self.now.desk.now) claimed.0.ticket.region }
         requires place { box_allocator claimed.1 ≡ spot (D.keeps self.now.desk.now) claimed.0.ticket.region }
         ensures number { seat.new.number ≡ seat.old.number }
         ensures callable { F.IsAlwaysCallable on_last.new }
@@ -72,6 +82,7 @@ impl<D: Desk<W>, W> Filler<'_, D, W> {
             desk: self.desk,
             site: Site::of(&guide, ticket.region()),
             wait: self.wait,
+            redirects: self.redirects,
         };
         let Some(right) = ticket.right() else {
             unreachable!();
@@ -89,14 +100,15 @@ struct Filling<'d, 's, 'w, D: Desk<W>, W> {
     desk: &'d D,
     site: Site<'s>,
     wait: &'w W,
-    ghost keeps: { KeepsImage site.guide.now (D.keeps desk.now) },
+    redirects: bool,
+    ghost keeps: { Keeps redirects site.guide.now (D.keeps desk.now) } by { Prim.hlevel props },
 }
 
 impl<D: Desk<W>, W> Filling<'_, '_, '_, D, W> {
     /// Writes the region's moved words, and drains its other sources.
     ///
     /// After the prefix, the region's own words are written first, then those of each other source, in ascending order;
-    /// a source is drained as soon as it is copied. The references are redirected last.
+    /// a source is drained as soon as it is copied. The references are redirected last, if there are any.
     fn fill<F: FnMut(u32)>(
         &self,
         seat: &mut Seat,
@@ -108,13 +120,13 @@ impl<D: Desk<W>, W> Filling<'_, '_, '_, D, W> {
         requires callable { F.IsAlwaysCallable on_last.old }
         requires ticket { IsUnopened (moves_of (D.keeps self.now.desk.now)) (caller seat.old.pass) self.now.site.region ticket.old.ticket }
         requires holds { Holds (D.keeps self.now.desk.now) ticket.old seat.old.pass }
-        requires words { IsUnwritten self.now.site.guide.now self.now.site.region words.old }
+        requires words { IsUnwritten (original_words (D.keeps self.now.desk.now)) self.now.site.region words.old }
         ensures number { seat.new.number ≡ seat.old.number }
         ensures callable { F.IsAlwaysCallable on_last.new }
         ensures ticket { IsSpent (moves_of (D.keeps self.now.desk.now)) (caller seat.new.pass) ticket.old.ticket ticket.new.ticket }
         ensures holds { Holds (D.keeps self.now.desk.now) ticket.new seat.new.pass }
         ensures drained { HasDrained (λ f s f'. F.step f s tt f') (image_table self.now.site.guide.now) self.now.site.region (region_count self.now.site.guide.now) (caller seat.old.pass) (caller seat.new.pass) on_last.old on_last.new }
-        ensures moved { Becomes (IsMoved self.now.site.guide.now self.now.site.region) words.old words.new }
+        ensures moved { words.new ≡ moved_words (D.keeps self.now.desk.now) self.now.site.region }
     {
         plan_laws();
         moves_of_images();
@@ -125,12 +137,13 @@ impl<D: Desk<W>, W> Filling<'_, '_, '_, D, W> {
             self.fill_in_prefix(seat, ticket, words);
             return;
         }
-        let place = self.site.after_prefix();
+        let board = self.desk.board();
+        let place = self.site.after_prefix(board);
         let plan = self.site.guide.plan();
         let mut from = self.site.region + 1;
         let mut to = place.slide_own(words);
         self.note(seat, ticket, to - self.site.span.start);
-        while let Some((opening, share)) = self.desk.board().open(&mut seat.pass, ticket, plan) {
+        while let Some((opening, share)) = board.open(&mut seat.pass, ticket, plan) {
             let s = opening.source();
             let end = place.copy_source(share.get(), s, words, to);
             self.note(seat, ticket, end - to);
@@ -141,24 +154,48 @@ impl<D: Desk<W>, W> Filling<'_, '_, '_, D, W> {
             from = s + 1;
             to = end;
         }
-        place.redirect_objects(words, from, to);
+        self.finish(&place, words, from);
     }
 
-    /// Fills a region that begins in the prefix, which has no other source.
+    /// Redirects the references of a region after the prefix, if its objects have any. All words for it are copied, and the
+    /// regions from `from` on have none.
+    fn finish(&self, place: &AfterPrefix<'_>, words: &mut Region, from: u32)
+        requires site { place.now.site ≡ self.now.site }
+        requires own { self.now.site.region < from }
+        requires within { from ≤ region_count self.now.site.guide.now }
+        requires last { (t : ℕ) → from ≤ t → t < region_count self.now.site.guide.now → reads self.now.site.guide.now self.now.site.region t ≡ false }
+        requires block { IsBlockOf self.now.site.guide.now words.old }
+        requires slid { Shows (slid_word self.now.site.guide.now (original_words (D.keeps self.now.desk.now))) self.now.site.span.start words.old }
+        ensures { words.new ≡ moved_words (D.keeps self.now.desk.now) self.now.site.region }
+    {
+        plan_laws();
+        self.site.guide.image_is_valid();
+        if self.redirects {
+            place.redirect_objects(words, from);
+        }
+    }
+
+    /// Fills a region that begins in the prefix, which has no other source. One of opaque objects is left as it is.
     fn fill_in_prefix(&self, seat: &Seat, ticket: &RegionTicket, words: &mut Region)
         requires in_prefix { self.now.site.span.start < prefix_end self.now.site.guide.now }
         requires ticket { IsUnopened (moves_of (D.keeps self.now.desk.now)) (caller seat.now.pass) self.now.site.region ticket.now.ticket }
-        requires words { IsUnwritten self.now.site.guide.now self.now.site.region words.old }
+        requires words { IsUnwritten (original_words (D.keeps self.now.desk.now)) self.now.site.region words.old }
         ensures no_source { other_sources_below (image_table self.now.site.guide.now) self.now.site.region (region_count self.now.site.guide.now) ≡ [] }
         ensures none_left { ticket.now.ticket.left ≡ 0 }
-        ensures moved { Becomes (IsMoved self.now.site.guide.now self.now.site.region) words.old words.new }
+        ensures moved { words.new ≡ moved_words (D.keeps self.now.desk.now) self.now.site.region }
     {
+        plan_laws();
         moves_of_images();
         reads_by_words();
         swept_tickets_have_none_left();
         self.site.guide.image_is_valid();
-        self.site.in_prefix().fill(words);
-        self.note(seat, ticket, self.site.span.end - self.site.span.start);
+        let written = if self.redirects {
+            self.site.in_prefix().fill(words);
+            self.site.span.end - self.site.span.start
+        } else {
+            0
+        };
+        self.note(seat, ticket, written);
     }
 
     /// Notes at the desk that this many more words of the ticket's region are written, unless it is 0.

@@ -1,5 +1,5 @@
 ghost use Rattle.std.specs.Prelude.{◌≡◌, ℕ, ◌<◌, ◌≤◌, false};
-ghost use Rattle.object_heap.specs.HeapImage.{start_of, word_at, is_live_word};
+ghost use Rattle.object_heap.specs.HeapImage.{start_of, word_at, block_of, is_live_word};
 ghost use Rattle.summary.specs.NewAddresses.{prefix_end};
 ghost use Rattle.summary.specs.Compaction.{moved_word};
 ghost use Rattle.fill.specs.WordBlocks.{IsSplitAt, Shows};
@@ -21,7 +21,7 @@ pub(crate) struct InPrefix<'a> {
 impl InPrefix<'_> {
     /// Writes the fillers, and redirects the references in place.
     pub(crate) fn fill(&self, words: &mut Region)
-        requires { IsUnwritten self.now.site.guide.now self.now.site.region words.old }
+        requires { IsUnwritten (block_of self.now.site.guide.now) self.now.site.region words.old }
         ensures { Becomes (IsMoved self.now.site.guide.now self.now.site.region) words.old words.new }
     {
         self.site.guide.image_is_valid();
@@ -30,7 +30,7 @@ impl InPrefix<'_> {
     }
 
     fn write_fillers(&self, words: &mut Region)
-        requires { IsUnwritten self.now.site.guide.now self.now.site.region words.old }
+        requires { IsUnwritten (block_of self.now.site.guide.now) self.now.site.region words.old }
         ensures { Becomes (λ w. Shows (copied_word self.now.site.guide.now) self.now.site.span.start w) words.old words.new }
     {
         plan_laws();

@@ -3,8 +3,10 @@ ghost use Rattle.object_heap.specs.HeapImage.{heap_words, region_words, region_c
 ghost use Rattle.summary.specs.NewAddresses.{prefix_end, new_top};
 ghost use Rattle.summary.specs.RegionData.{fill_count};
 ghost use Rattle.summary.specs.Compaction.{moved_word};
+ghost use Rattle.claim_board.specs.RegionBoards.{original_words};
 ghost use Rattle.fill.specs.WordBlocks.{IsSplitAt};
 ghost use Rattle.fill.specs.CopiedWords.{copied_word};
+ghost use Rattle.fill.specs.SlidWords.{AreWhole};
 ghost use Rattle.fill.specs.Objects.{IsMovedTo, IsEarlyAt};
 ghost use Rattle.fill.specs.WrittenWords.{Becomes, IsBlockOf};
 
@@ -12,6 +14,7 @@ use super::after_prefix::AfterPrefix;
 use super::guide::Guide;
 use super::in_prefix::InPrefix;
 use super::span::Span;
+use claim_board::RegionBoard;
 use heap_image::header::references;
 use raw_region::Region;
 use summary::laws::plan_laws;
@@ -52,11 +55,13 @@ impl<'a> Site<'a> {
         InPrefix { site: self }
     }
 
-    pub(crate) fn after_prefix(self) -> AfterPrefix<'a>
-        requires { prefix_end self.guide.now ≤ self.span.start }
-        ensures { result.site ≡ self.entry }
+    pub(crate) fn after_prefix(self, board: &'a RegionBoard) -> AfterPrefix<'a>
+        requires after_prefix { prefix_end self.guide.now ≤ self.span.start }
+        requires whole { AreWhole self.guide.now (original_words board.now) }
+        ensures site { result.site ≡ self.entry }
+        ensures board { result.board.now ≡ board.now }
     {
-        AfterPrefix { site: self }
+        AfterPrefix { site: self, board }
     }
 
     /// Redirects the references of the live object whose new address is `at`. Its new words lie wholly in the region.

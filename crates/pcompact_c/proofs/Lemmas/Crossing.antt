@@ -22,6 +22,8 @@ use Rattle.claim_board.specs.contracts.desk.unrecorded.RegionBoardHasBoard.TheIm
 use Rattle.claim_board.proofs.regions.region_board.RegionBoard.TheSendSync as board
 use Rattle.claim_board.proofs.desk.Seat.TheSendSync as seat
 use Rattle.heap_image.proofs.image.ImageParts.TheSendSync as parts
+use Rattle.heap_image.specs.contracts.image.ImageParts as ImageParts
+use Rattle.collector.specs.contracts.slide.Slide as Slide
 use Rattle.ready_queues.specs.contracts.ready.Thief as Thief
 use Rattle.ready_queues.proofs.ready.Thief.TheSendSync as thief
 use Rattle.ready_queues.proofs.ready.Ready.TheSendSync as ready
@@ -60,17 +62,23 @@ thieves_send = heap.Vec-send Thief.the_row thief.the_send
 thieves_sync : IsSync (Vec.the_row Thief.the_row Heap.the_row ghosts)
 thieves_sync = heap.Vec-sync Thief.the_row thief.the_sync
 
+parts_send : IsSend (Option.the_field ImageParts.the_row).row
+parts_send = search (crosses, sendable, parts.the_send) depth 60 fits 20000
+
+parts_sync : IsSync (Option.the_field ImageParts.the_row).row
+parts_sync = search (crosses, sendable, parts.the_sync) depth 60 fits 20000
+
 -- what the workers of a session share
 shared_send : IsSend (Shared.the_field RegionBoard.the_row keeping).row
 shared_send =
     let T = Shared.the_type RegionBoard.the_row keeping in
-    let all : AllSend (declared.fields T) = (survey_send, (board.the_send, (parts.the_field_send, (thieves_send, (search (crosses, sendable), tt))))) in
+    let all : AllSend (declared.fields T) = (survey_send, (board.the_send, (parts_send, (thieves_send, (search (crosses, sendable), tt))))) in
     struct_send (declared.shape T) all
 
 shared_sync : IsSync (Shared.the_field RegionBoard.the_row keeping).row
 shared_sync =
     let T = Shared.the_type RegionBoard.the_row keeping in
-    let all : AllSync (declared.fields T) = (survey_sync, (board.the_sync, (parts.the_field_sync, (thieves_sync, (search (crosses, sendable), tt))))) in
+    let all : AllSync (declared.fields T) = (survey_sync, (board.the_sync, (parts_sync, (thieves_sync, (search (crosses, sendable), tt))))) in
     struct_sync (declared.shape T) all
 
 session_send : IsSend Session.the_row
@@ -167,7 +175,11 @@ share_send =
     let all : AllSend (declared.fields T) = (search (crosses, sendable, Read-send, session_sync) depth 60 fits 20000, (search (crosses, sendable, lead_send) depth 60 fits 20000, (worker_send, (search sendable, (heap.Arc-send ReturnedStakes.the_row returned_send returned_sync, tt))))) in
     struct_send (declared.shape T) all
 
+-- a slide that is planned
+slide_send : IsSend Slide.the_row
+slide_send = search (crosses, sendable, survey_send) depth 60 fits 20000
+
 pub part_send : IsSend Part.the_row
 part_send =
     let T = Part.the_type in
-    recorded_send (Struct (declared.shape T)) T.D T.to T.to_one (struct_send (declared.shape T) (search (crosses, sendable, share_send) depth 60 fits 20000, (origin.the_field_send, tt)))
+    recorded_send (Struct (declared.shape T)) T.D T.to T.to_one (struct_send (declared.shape T) (search (crosses, sendable, share_send) depth 60 fits 20000, (search (crosses, sendable, slide_send) depth 60 fits 20000, (origin.the_field_send, tt))))

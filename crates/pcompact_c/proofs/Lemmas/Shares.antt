@@ -38,6 +38,15 @@ ends f g (x ∷ w ∷ ws) [] y same = absurd (omega (arith, ap length same))
 ends f g (x ∷ xs) (z ∷ zs) y same =
     let rest = ends f g xs zs y (ap (drop 1) same) in (x ∷ rest.0, rest.1, ap (λ all. x ∷ all) rest.2, rest.3)
 
+-- lists with the same image that end with elements have the same image of these
+pub same_end : {X Y : Type 0} (f : X → Y) (xs ys : List X) (x y : X) → map f (xs ++ x ∷ []) ≡ map f (ys ++ y ∷ []) → f x ≡ f y
+same_end f [] [] x y same = ap (λ zs. get_or zs 0 (f x)) same
+same_end f [] (z ∷ []) x y same = absurd (omega (arith, ap length same))
+same_end f [] (z ∷ w ∷ ws) x y same = absurd (omega (arith, ap length same))
+same_end f (z ∷ []) [] x y same = absurd (omega (arith, ap length same))
+same_end f (z ∷ w ∷ ws) [] x y same = absurd (omega (arith, ap length same))
+same_end f (z ∷ zs) (w ∷ ws) x y same = same_end f zs ws x y (ap (drop 1) same)
+
 -- a change that the function doesn't show
 pub same_at : {X Y : Type 0} (f : X → Y) (xs : List X) (i : ℕ) (x d : X) → i < length xs → f x ≡ f (get_or xs i d) → map f (set xs i x) ≡ map f xs
 same_at f [] i x d inside same = absurd (omega (arith, inside))

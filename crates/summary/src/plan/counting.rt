@@ -7,14 +7,13 @@ ghost use Rattle.summary.specs.RegionPlaces.{region_counts, AreRegionCounts, IsO
 
 use super::region_counts::RegionCounts;
 use crate::surveyor::Surveyor;
-use heap_image::{Image, image_is_valid};
-use mark_bitmap::Marks;
+use mark_bitmap::{Listed, Marks, listed_image_is_valid};
 use std::alloc::{AllocError, Global};
 
 /// The counts of all regions. The surveyor's threads count.
 pub(crate) fn count_regions<S: Surveyor>(
     alloc: Global,
-    image: &Image,
+    image: &Listed<'_>,
     marks: &Marks,
     surveyor: &S,
 ) -> Result<Vec<RegionCounts>, AllocError>
@@ -34,7 +33,7 @@ pub(crate) fn count_regions<S: Surveyor>(
 
 /// Counts the live words of region `r`. `starts` are the own starts of all regions.
 pub(crate) fn count_region(
-    image: &Image,
+    image: &Listed<'_>,
     marks: &Marks,
     starts: &[u64],
     r: usize,
@@ -45,13 +44,13 @@ pub(crate) fn count_region(
     requires inside { r < region_count image.now }
     ensures { counts.new ≡ region_counts image.now r }
 {
-    image_is_valid(image);
+    listed_image_is_valid(image);
     *counts = counts_of(image, marks, r as u32, starts[r]);
 }
 
 /// The counts of one region, by population counts. The live words before its own start belong to an object of an earlier
 /// region.
-fn counts_of(image: &Image, marks: &Marks, r: u32, own_start: u64) -> RegionCounts
+fn counts_of(image: &Listed<'_>, marks: &Marks, r: u32, own_start: u64) -> RegionCounts
     requires same { marks.now ≡ image.now }
     requires inside { r < region_count image.now }
     requires own_start { IsOwnStart image.now r own_start }
@@ -68,7 +67,7 @@ fn counts_of(image: &Image, marks: &Marks, r: u32, own_start: u64) -> RegionCoun
 
 /// The own start of each region: the address of the first object that begins in it, or its end if none does. Each search
 /// begins where the one before it ended, so no mark is read twice.
-fn own_starts(alloc: Global, image: &Image, marks: &Marks) -> Result<Vec<u64>, AllocError>
+fn own_starts(alloc: Global, image: &Listed<'_>, marks: &Marks) -> Result<Vec<u64>, AllocError>
     requires { marks.now ≡ image.now }
     ensures { IfOk result (λ starts. AreOwnStarts image.now starts.items) }
 {
@@ -86,7 +85,7 @@ fn own_starts(alloc: Global, image: &Image, marks: &Marks) -> Result<Vec<u64>, A
 }
 
 /// The first address from `from` on at which a live object begins, or the end of the heap if none does.
-fn begin_from(image: &Image, marks: &Marks, from: u64) -> u64
+fn begin_from(image: &Listed<'_>, marks: &Marks, from: u64) -> u64
     requires same { marks.now ≡ image.now }
     requires inside { from ≤ heap_words image.now }
     ensures behind { from ≤ result }

@@ -9,8 +9,7 @@ ghost use Rattle.summary.specs.RegionData.{deferred};
 ghost use Rattle.summary.specs.Plan.{AreDeferred, place_in};
 
 use super::redirections::Redirections;
-use heap_image::Image;
-use mark_bitmap::Marks;
+use mark_bitmap::{Listed, Marks};
 use std::alloc::{AllocError, Global};
 
 /// For each region, the place in it where the new words of a deferred object begin, counted from 1; 0 for none.
@@ -18,7 +17,7 @@ use std::alloc::{AllocError, Global};
 /// Makes one pass over the live list and the regions, which is too little work for a second thread to pay.
 pub(crate) fn deferred_places(
     alloc: Global,
-    image: &Image,
+    image: &Listed<'_>,
     marks: &Marks,
     redirections: &Redirections,
 ) -> Result<Vec<u32>, AllocError>
@@ -40,7 +39,7 @@ pub(crate) fn deferred_places(
 /// The place in region `d`, counted from 1, where the new words of a deferred object begin, or 0 for none. `placed` objects
 /// have a new address below the region's end, and only the last of them can cross that end.
 fn deferred_in(
-    image: &Image,
+    image: &Listed<'_>,
     marks: &Marks,
     redirections: &Redirections,
     d: u32,
@@ -72,7 +71,7 @@ fn deferred_in(
 ///
 /// No object moves farther down than a later one. So if an object goes `n` words below the limit, all objects that begin
 /// within the next `n` words go below it too and are skipped.
-fn placed_below(image: &Image, redirections: &Redirections, limit: u64, from: usize) -> usize
+fn placed_below(image: &Listed<'_>, redirections: &Redirections, limit: u64, from: usize) -> usize
     requires redirections { redirections.now ≡ image.now }
     requires inside { limit ≤ heap_words image.now }
     requires within { from ≤ object_count image.now }

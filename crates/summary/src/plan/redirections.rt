@@ -8,8 +8,8 @@ ghost use Rattle.summary.specs.Compaction.{redirected};
 ghost use Rattle.summary.specs.Redirections.{counted_below};
 
 use crate::plan::ranks::{RankSlices, Ranks};
-use heap_image::{Bits, Image};
-use mark_bitmap::Marks;
+use heap_image::Bits;
+use mark_bitmap::{Listed, Marks, Surveyed};
 use std::alloc::{AllocError, Global};
 use std::marker::Model;
 use std::snapshot::Snapshot;
@@ -24,7 +24,7 @@ use std::sync::Arc;
 ///
 /// A contract sees the image that the redirections were made of, as it was then.
 pub(crate) struct Redirections {
-    image: Snapshot<Image>,
+    image: Snapshot<Surveyed>,
     /// The live bits, which the marks keep, too.
     live: Arc<Bits, Global>,
     /// For each word of `live`, the dead words of the dense prefix plus the number of bits set in all words before it.
@@ -55,7 +55,7 @@ impl Redirections {
     /// Allocates about 2 bytes for each 64 words of the heap.
     pub(crate) fn of(
         alloc: Global,
-        image: &Image,
+        image: &Listed<'_>,
         marks: &Marks,
         prefix: u64,
     ) -> Result<Redirections, AllocError>
@@ -68,7 +68,7 @@ impl Redirections {
         let live = marks.share_live()?;
         let ranks = Ranks::of(alloc, &live, words, dead)?;
         Ok(Redirections {
-            image: Snapshot::of(image),
+            image: image.surveyed(),
             live,
             ranks,
         })
@@ -130,7 +130,7 @@ impl Redirections {
 /// A contract sees the image that the redirections were made of.
 #[derive(Drop)]
 struct RedirectionSlices<'a> {
-    image: &'a Snapshot<Image>,
+    image: &'a Snapshot<Surveyed>,
     live: &'a [u64],
     ranks: RankSlices<'a>,
 }

@@ -9,7 +9,7 @@ ghost use Rattle.summary.specs.RegionPlaces.{region_counts, placed_region, AreRe
 use super::region_counts::RegionCounts;
 use crate::region_data::RegionData;
 use crate::region_row::RegionRow;
-use heap_image::Image;
+use mark_bitmap::Listed;
 use std::alloc::{AllocError, Global};
 
 /// Where the words of each region go, before the sources are known.
@@ -27,7 +27,7 @@ impl RegionPlaces {
     /// Lays out an image from the counts of its regions.
     pub fn of(
         alloc: Global,
-        image: &Image,
+        image: &Listed<'_>,
         counts: &[RegionCounts],
     ) -> Result<RegionPlaces, AllocError>
         requires { AreRegionCounts image.now counts.now }
@@ -52,7 +52,7 @@ impl RegionPlaces {
 }
 
 /// The data of region `r`, whose words go to `next` if it lies after the dense prefix.
-fn placed(image: &Image, prefix: u64, next: u64, r: u64, counts: RegionCounts) -> RegionData
+fn placed(image: &Listed<'_>, prefix: u64, next: u64, r: u64, counts: RegionCounts) -> RegionData
     requires prefix { prefix ≡ prefix_end image.now }
     requires inside { r < region_count image.now }
     requires counts { counts ≡ region_counts image.now r }
@@ -75,7 +75,7 @@ fn placed(image: &Image, prefix: u64, next: u64, r: u64, counts: RegionCounts) -
 }
 
 /// The number of other regions that receive words of region `s`, whose words go to `destination` and after.
-fn readers(image: &Image, s: u64, destination: u64, words: u64) -> u32
+fn readers(image: &Listed<'_>, s: u64, destination: u64, words: u64) -> u32
     requires { destination + words < 2 ^ 64 }
     ensures { result ≡ readers_from image.now s destination words }
 {
@@ -90,7 +90,7 @@ fn readers(image: &Image, s: u64, destination: u64, words: u64) -> u32
 
 /// The last region start that is not above the end of the last live object and has no more dead words below it than
 /// the allowance.
-pub fn prefix_end(image: &Image, counts: &[RegionCounts]) -> u64
+pub fn prefix_end(image: &Listed<'_>, counts: &[RegionCounts]) -> u64
     requires { AreRegionCounts image.now counts.now }
     ensures value { result ≡ prefix_end image.now }
     ensures valid { IsValid image.now }
@@ -108,12 +108,12 @@ pub fn prefix_end(image: &Image, counts: &[RegionCounts]) -> u64
 }
 
 /// The end of the last live object, or 0 where there is none.
-fn last_end(image: &Image) -> u64
+fn last_end(image: &Listed<'_>) -> u64
     ensures value { result ≡ last_end image.now }
     ensures inside { result ≤ heap_words image.now }
 {
-    match image.live().last() {
-        Some(a) => *a + image.size_at(*a),
-        None => 0,
+    match image.live() {
+        [] => 0,
+        [.., last] => last + image.size_of(image.live().len() - 1),
     }
 }

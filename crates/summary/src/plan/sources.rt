@@ -9,10 +9,10 @@ ghost use Rattle.summary.specs.RegionPlaces.{placed_region};
 ghost use Rattle.summary.specs.Sources.{StartsOnly, region_so_far};
 
 use crate::region_row::RegionRow;
-use heap_image::Image;
+use mark_bitmap::Listed;
 
 /// Sets the source of each region in a table that is complete but for the sources.
-pub fn set_sources(image: &Image, prefix: u64, regions: &mut [RegionRow])
+pub fn set_sources(image: &Listed<'_>, prefix: u64, regions: &mut [RegionRow])
     requires prefix { prefix ≡ prefix_end image.now }
     requires regions { regions.old ≡ map (placed_region image.now) (range_with_len 0 (region_count image.now)) }
     ensures { regions.new ≡ map (region_data image.now) (range_with_len 0 (region_count image.now)) }
@@ -25,7 +25,7 @@ pub fn set_sources(image: &Image, prefix: u64, regions: &mut [RegionRow])
 }
 
 /// The region to whose start a word of region `s` goes, if `s` lies after the dense prefix.
-fn started_by(image: &Image, prefix: u64, s: u32, region: &RegionRow) -> Option<u64>
+fn started_by(image: &Listed<'_>, prefix: u64, s: u32, region: &RegionRow) -> Option<u64>
     requires prefix { prefix ≡ prefix_end image.now }
     requires inside { s < region_count image.now }
     requires region { region_so_far image.now s s ≡ region.now }

@@ -1,7 +1,8 @@
-use Rattle.std.proofs.Common.{◌≡◌, ◌+◌, ◌≤◌, All, vec_len}
+use Rattle.std.proofs.Common.{◌≡◌, ◌+◌, ◌≤◌, ℕ, List, All, vec_len}
+use Rattle.std.specs.Prelude.{Option, Some, option_map}
 use Rattle.std.specs.Vec.{vec_capacity}
 use Rattle.object_heap.specs.HeapImage.{HeapImage}
-use Rattle.collector.specs.Sessions.{image_of}
+use Rattle.collector.specs.Sessions.{image_of, held_of}
 use Rattle.caller_heap.specs.Parts.{IsPartOf}
 use Rattle.caller_heap.specs.declared.part.Origin.{Origin}
 use Rattle.caller_heap.proofs.part.with_shares.Given as goal
@@ -14,6 +15,8 @@ invariant-loop-part l = record {
   room : vec_len l.fn.parts ≤ vec_capacity l.whole;
   parts : (image : HeapImage) (origin : Origin) → All (λ share. image_of share ≡ image) l.fn.shares.items → All (λ part. part.value.origin ≡ origin) l.fn.parts.items
       → All (λ share. image_of share ≡ image) l.shares.items × All (λ part. part.value.origin ≡ origin) l.parts.items × All (λ part. IsPartOf image origin part.value) l.whole.items;
+  held : (held : Option (List (List ℕ))) → All (λ share. held_of share ≡ held) l.fn.shares.items
+      → All (λ share. held_of share ≡ held) l.shares.items × All (λ part. option_map held_of part.value.share ≡ Some held) l.whole.items;
 }
 
 abbrev pub decreases-loop-part : goal.decreases-loop-part

@@ -3,7 +3,6 @@ use Rattle.std.proofs.lemmas.Bool.{cond-true, and_from, lt-ltb, le-leb, eq-eqb}
 use Rattle.std.proofs.Math.Nat.{mul-le-mul_left, mul-div-le, mul-mod_left, mod-eq_of_lt}
 use Rattle.object_heap.specs.HeapImage.{HeapImage, heap_words, is_live_word}
 use Rattle.summary.specs.WordMoves.{slid}
-use Rattle.collector.specs.Sessions.{image_of}
 use Rattle.caller_heap.specs.Slots.{leads, redirected_slot}
 use Rattle.caller_heap.proofs.slots.redirected.Goals as goal
 
@@ -12,7 +11,7 @@ overflow_add-result c =
     let base = c.args.coding.base in
     let s : ℕ = 2 ^ (c.args.coding.unit % 64) in
     let d : ℕ = c.args.slot - base in
-    let image = image_of c.args.share.now in
+    let image = c.args.places.now in
     let down = c.plan_laws.ensures.slid-le image (d / s) in
     let to : c.in-At.to ≤ d / s = let is = c.in-At.ensures.2 in omega arith in
     let scaled = mul-le-mul_left s to in
@@ -32,7 +31,7 @@ returns-in-At c =
     let s : ℕ = 2 ^ (c.args.coding.unit % 64) in
     let d : ℕ = slot - base in
     let a : ℕ = d / s in
-    let image : HeapImage = image_of c.args.share.now in
+    let image : HeapImage = c.args.places.now in
     let at = c.in-At.ensures in
     let down = c.plan_laws.ensures.slid-le image a in
     let to : c.in-At.to ≤ a = omega (arith, at.2, down) in

@@ -12,6 +12,7 @@ pub returns : goal.returns
 returns c =
     let image : HeapImage = c.args.image.now in
     let i : ℕ = c.first_from-first.result in
-    ap (λ n. ltb c.args.address (get_or c.live-objects.result.now (i - 1) 0 + n)) (c.size_at.ensures ∙ ap (λ h. size_at h (get_or c.live-objects.result.now (i - 1) 0)) c.heap.ensures)
+    let live : List ℕ = c.live-objects.result.now in
+    ap (λ n. ltb c.args.address (get_or live (i - 1) 0 + n)) (c.size_of.ensures.value ∙ ap (λ (l : List ℕ). size_at image (get_or l (i - 1) 0)) (sym c.live-objects.ensures.value))
     ∙ ap (λ (l : List ℕ). ltb c.args.address (get_or l (i - 1) 0 + size_at image (get_or l (i - 1) 0))) c.live-objects.ensures.value
     ∙ last-continues_at image c.live-objects.ensures.valid c.args.address i c.first_from-first.ensures (omega (arith, c.if-first-eq0.false))

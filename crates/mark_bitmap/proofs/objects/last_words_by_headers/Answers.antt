@@ -16,6 +16,6 @@ loop-i-preserved c =
       length-set lasts i last ∙ long,
       take_more_set lasts i last (omega arith)
           ∙ ap (λ (l : List ℕ). l ++ last ∷ []) c.loop-i.invariant.1
-          ∙ ap (λ n. map (λ b. end_of image b - 1) (take i objects) ++ (a + n - 1) ∷ []) (c.size_at.ensures ∙ ap (λ h. size_at h a) c.heap-heap.ensures)
+          ∙ ap (λ n. map (λ b. end_of image b - 1) (take i objects) ++ (a + n - 1) ∷ []) (c.size_at.ensures ∙ ap (λ h. size_at h a) c.requires.heap)
           ∙ sym (map_more (λ b. end_of image b - 1) objects i 0 inside),
     )

@@ -1,4 +1,4 @@
-use Rattle.std.proofs.Common.{◌/◌, arith}
+use Rattle.std.proofs.Common.{arith}
 use Rattle.mark_bitmap.proofs.part_bits.insert.Goals as goal
 
 pub returns-clause-bits : goal.returns-clause-bits

@@ -1,9 +1,11 @@
-use Rattle.std.proofs.Common.{◌≡◌, ◌+◌, length, take, drop, vec_len}
-use Rattle.std.specs.Prelude.{All}
+use Rattle.std.proofs.Common.{◌≡◌, ◌+◌, ℕ, List, length, take, drop, vec_len}
+use Rattle.std.specs.Prelude.{All, Option, Some, option_map}
+use Rattle.collector.specs.Sessions.{held_of}
 use Rattle.object_heap.specs.HeapImage.{HeapImage}
 use Rattle.caller_heap.specs.declared.part.Origin.{Origin}
 use Rattle.caller_heap.specs.Parts.{IsPartOf}
 use Rattle.pcompact_c.specs.Handles.{IsHandleOf}
+use Rattle.pcompact_c.specs.Slides.{held_in}
 use Rattle.pcompact_c.proofs.begin.hand_out.Given as goal
 
 -- each handle so far has a part in the collection of which all are, and for each other one a part is left
@@ -14,4 +16,6 @@ invariant-loop-handle l = record {
   rest : drop l.handle-index l.handles ≡ drop l.handle-index l.initial.handles;
   parts : (image : HeapImage) → (origin : Origin) → All (λ part. IsPartOf image origin part.value) l.fn.parts.items
       → All (λ part. IsPartOf image origin part.value) l.parts.items × All (IsHandleOf image origin) (take l.handle-index l.handles);
+  held : (held : Option (List (List ℕ))) → All (λ part. option_map held_of part.value.share ≡ Some held) l.fn.parts.items
+      → All (λ part. option_map held_of part.value.share ≡ Some held) l.parts.items × All (λ h. held_in h ≡ Some held) (take l.handle-index l.handles);
 }

@@ -1,9 +1,9 @@
-use Rattle.std.proofs.Common.{◌≡◌, subst}
-use Rattle.std.specs.Prelude.{All}
-use Rattle.object_heap.specs.HeapImage.{HeapImage}
-use Rattle.collector.specs.Sessions.{image_of}
+use Rattle.std.proofs.Common.{ap, ◌∙◌}
+use Rattle.collector.specs.SessionIds.{SessionHeap, SessionView}
 use Rattle.collector.proofs.session.Session.prepare.Goals as goal
 
 pub returns-clause-image : goal.returns-clause-image
-returns-clause-image c =
-    subst (λ (image : HeapImage). All (λ share. image_of share ≡ image) c.deal.result.items) c.in_ok-compaction.ensures.survey c.deal.ensures.image
+returns-clause-image c k d below = ap (λ (h : SessionHeap). h.image) (c.deal.ensures.heap k d below) ∙ ap (λ (v : SessionView). v.heap.image) (c.in-Ok.ensures ∙ c.of_image-id.ensures)
+
+pub returns-clause-objects : goal.returns-clause-objects
+returns-clause-objects c k d below = ap (λ (h : SessionHeap). h.held) (c.deal.ensures.heap k d below) ∙ ap (λ (v : SessionView). v.heap.held) (c.in-Ok.ensures ∙ c.of_image-id.ensures)

@@ -3,7 +3,7 @@ use Rattle.std.specs.Prelude.{All}
 use Rattle.std.specs.Arc.{arc_value}
 use Rattle.std.proofs.lemmas.List.Elements.{All-push}
 use Rattle.collector.specs.SessionIds.{SessionView}
-use Rattle.collector.specs.Sessions.{image_of}
+use Rattle.collector.specs.Sessions.{heap_of}
 use Rattle.collector.specs.Stakes.{Leads}
 use Rattle.collector.specs.declared.session.share.Share.{Share}
 use Rattle.collector.proofs.Lemmas.Passes.{front_and_last}
@@ -37,8 +37,8 @@ loop-workers-preserved c =
     let free = c.in-Some-Some.ensures'.cases in
     let more = c.loop-workers-test.true in
     let length = c.len.ensures in
-    let IsOfIt : Share → Type 0 = λ share. image_of share ≡ id.image in
-    let one : IsOfIt c.new.result = ap (λ r. (arc_value {X = SessionView} r).image) c.new.ensures ∙ ap (λ (v : SessionView). v.image) own in
+    let IsOfIt : Share → Type 0 = λ share. heap_of share ≡ id.heap in
+    let one : IsOfIt c.new.result = ap (λ r. (arc_value {X = SessionView} r).heap) c.new.ensures ∙ ap (λ (v : SessionView). v.heap) own in
     let count = i.count in
     let some : 1 ≤ l.lead.rest.parts = let parts = i.lead.parts in let few = c.requires.few in omega arith in
     let rest = remains id (vec_len l.shares) l.lead l.workers.items c.pop.new.self.items c.in-Some-Some.worker c.in-Some-Some.ensures.items i.lead c.split_one-session.new.self some c.split_one-session.ensures.left in
@@ -49,7 +49,7 @@ loop-workers-preserved c =
       returned = (front_and_last (λ r. arc_value r ≡ id) l.returned.items c.pop-in-loop-workers.new.self.items c.in-Some-Some.own c.in-Some-Some.ensures'.items i.returned).0;
       owners = let owners = i.owners in omega arith;
       room = let room = i.room in let capacity = c.push_reserved.ensures.capacity in omega arith;
-      image = subst (All IsOfIt) (sym c.push_reserved.ensures.items) (All-push IsOfIt l.shares.items c.new.result i.image one);
+      heap = subst (All IsOfIt) (sym c.push_reserved.ensures.items) (All-push IsOfIt l.shares.items c.new.result i.heap one);
     }
 
 pub new-requires-2-clause-stake : goal.new-requires-2-clause-stake
@@ -79,10 +79,10 @@ new-requires-2-clause-numbered c =
     let some = c.requires.some in
     omega arith
 
-pub returns-clause-image : goal.returns-clause-image
-returns-clause-image c =
+pub returns-clause-heap : goal.returns-clause-heap
+returns-clause-heap c =
     let own = (front_and_last (λ r. arc_value r ≡ c.args.id.now) c.loop-workers.returned.items c.pop-3.new.self.items c.in-Some-Some-2.own c.in-Some-Some-2.ensures'.items c.loop-workers.invariant.returned).1 in
     let id = c.args.id.now in
-    let IsOfIt : Share → Type 0 = λ share. image_of share ≡ id.image in
-    let one : IsOfIt c.new-2.result = ap (λ r. (arc_value {X = SessionView} r).image) c.new-2.ensures ∙ ap (λ (v : SessionView). v.image) own in
-    subst (All IsOfIt) (sym c.push_reserved-2.ensures.items) (All-push IsOfIt c.loop-workers.shares.items c.new-2.result c.loop-workers.invariant.image one)
+    let IsOfIt : Share → Type 0 = λ share. heap_of share ≡ id.heap in
+    let one : IsOfIt c.new-2.result = ap (λ r. (arc_value {X = SessionView} r).heap) c.new-2.ensures ∙ ap (λ (v : SessionView). v.heap) own in
+    subst (All IsOfIt) (sym c.push_reserved-2.ensures.items) (All-push IsOfIt c.loop-workers.shares.items c.new-2.result c.loop-workers.invariant.heap one)

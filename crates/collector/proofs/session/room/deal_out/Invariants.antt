@@ -1,7 +1,7 @@
 use Rattle.std.proofs.Common.{◌≡◌, ◌+◌, ◌≤◌, All, vec_len}
 use Rattle.std.specs.Arc.{arc_value}
 use Rattle.std.specs.Vec.{vec_capacity}
-use Rattle.collector.specs.Sessions.{image_of}
+use Rattle.collector.specs.Sessions.{heap_of}
 use Rattle.collector.specs.Stakes.{Leads}
 use Rattle.collector.proofs.session.room.deal_out.Given as goal
 
@@ -14,7 +14,7 @@ invariant-loop-workers l = record {
   returned : All (λ r. arc_value r ≡ l.id) l.returned.items;
   owners : vec_len l.returned ≡ vec_len l.workers;
   room : l.id.workers ≤ vec_capacity l.shares;
-  image : All (λ share. image_of share ≡ l.id.image) l.shares.items;
+  heap : All (λ share. heap_of share ≡ l.id.heap) l.shares.items;
 }
 
 abbrev pub decreases-loop-workers : goal.decreases-loop-workers

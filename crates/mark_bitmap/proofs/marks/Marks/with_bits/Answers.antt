@@ -9,7 +9,7 @@ use Rattle.mark_bitmap.proofs.marks.Marks.with_bits.Goals as goal
 pub invariant_of-result : goal.invariant_of-result
 invariant_of-result c =
     let image : HeapImage = c.args.image.now in
-    let valid : IsValid image = c.image_is_valid.ensures in
+    let valid : IsValid image = c.listed_image_is_valid.ensures in
     let marks : AreMarks image c.args.begins c.args.live.items = record {
       valid = valid;
       bits = record {
@@ -20,4 +20,4 @@ invariant_of-result c =
       };
     } in
     let same : arc_value c.in_ok-live.live ≡ c.args.live.items = c.in_ok-live.ensures.ok ∙ c.from_words.ensures in
-    rw (c.of.ensures, same) marks
+    rw (c.surveyed.ensures, same) marks

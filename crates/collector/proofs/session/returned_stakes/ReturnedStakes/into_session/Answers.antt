@@ -40,8 +40,8 @@ loop-slot-preserved c =
           (c.join.ensures id (id.workers - vec_len c.loop-slot.slots) (one_part c.in-Some.slot id 1 c.in_ok-below.below both.1 refl c.in_ok-below.ensures) i.stake);
     }
 
-pub returns-clause-image : goal.returns-clause-image
-returns-clause-image c =
+pub returns-clause-heap : goal.returns-clause-heap
+returns-clause-heap c =
     let id = c.args.self in
     let none = c.in_default.ensures.cases in
-    c.into_session.ensures.image id (subst (λ (n : ℕ). IsStakeOf id n c.loop-slot.stake) (omega arith) c.loop-slot.invariant.stake)
+    c.into_session.ensures.heap id (subst (λ (n : ℕ). IsStakeOf id n c.loop-slot.stake) (omega arith) c.loop-slot.invariant.stake)

@@ -1,9 +1,8 @@
 use Rattle.std.proofs.Common.{◌≡◌, ◌≤◌, ◌∙◌, ap, sym, subst, arith, vec_len}
-use Rattle.std.specs.Prelude.{All, Option, Some, is_some}
+use Rattle.std.specs.Prelude.{Option, Some, is_some}
 use Rattle.std.specs.Option.{ForSome}
-use Rattle.object_heap.specs.HeapImage.{HeapImage}
 use Rattle.collector.specs.Rest.{AreOf}
-use Rattle.collector.specs.Sessions.{image_of}
+use Rattle.collector.specs.Stakes.{IsOfHeap}
 use Rattle.collector.specs.declared.session.Session.{Session}
 use Rattle.collector.proofs.Lemmas.Stakes.{of_some}
 use Rattle.collector.proofs.session.room.SessionRoom.deal.Goals as goal
@@ -23,12 +22,8 @@ deal_out-requires-clause-lead c =
       parts = omega (arith, made.all);
       same = made.value.0 ∙ sym made.value.1;
       there = ap is_some there;
-      image = of_it (λ s. s.shared.survey ≡ c.args.self.id.image) c.requires.image;
+      heap = of_it (IsOfHeap c.args.self.id.heap) c.requires.heap;
       queues = of_it (λ s. c.args.self.id.workers ≤ vec_len s.shared.thieves) (omega arith);
       seated = of_it (λ s. AreOf s.shared.desk c.args.workers.items) c.requires.seats;
       at_rest = c.requires.rest;
     }
-
-pub returns-clause-image : goal.returns-clause-image
-returns-clause-image c =
-    subst (λ (image : HeapImage). All (λ share. image_of share ≡ image) c.deal_out.result.items) (sym c.requires.image) c.deal_out.ensures.image

@@ -1,6 +1,5 @@
-use Rattle.std.proofs.Common.{◌<◌, ℕ, ap, sym, subst, ◌∙◌, arith}
+use Rattle.std.proofs.Common.{ℕ, ap, sym, subst, ◌∙◌}
 use Rattle.std.specs.Box.{box_allocator}
-use Rattle.object_heap.specs.HeapImage.{HeapImage, IsValid, region_count, block_of}
 use Rattle.summary.specs.RegionData.{fill_count}
 use Rattle.scheduler.specs.declared.event.Event.TheVariants.{Settle}
 use Rattle.std.specs.Prelude.{if◌then◌else◌}
@@ -8,19 +7,15 @@ use Rattle.scheduler.specs.declared.reply.Reply.{Reply}
 use Rattle.scheduler.specs.declared.reply.Reply.TheVariants.{Done, All, More}
 use Rattle.claim_board.specs.Boards.{caller}
 use Rattle.claim_board.specs.Callers.{Gains}
-use Rattle.claim_board.specs.RegionBoards.{moves, worker_count, spot}
+use Rattle.claim_board.specs.RegionBoards.{moves, worker_count, original_words, spot}
 use Rattle.collector.specs.Rest.{Settles}
 use Rattle.collector.proofs.Lemmas.Rest.{settles_filled, rest_settled, gained_by}
 use Rattle.collector.proofs.workers.fill_task.FillTask.fill_admitted.Goals as goal
 
 pub fill_region-done-requires-clause-words : goal.fill_region-done-requires-clause-words
 fill_region-done-requires-clause-words g c =
-    let image : HeapImage = c.args.self.now.shared.now.survey in
-    let claimed = c.requires.claimed in
-    let r : ℕ = c.args.claimed.ticket.ticket.region in
-    let valid : IsValid image = subst IsValid c.plan.ensures c.planned_image_is_valid.ensures in
-    let inside : r < region_count image = omega (arith, claimed.inside, c.regions_to_fill.ensures.few image valid) in
-    ap (λ x. x.value) c.take.ensures.1 ∙ (claimed.words ∙ (c.args.self.now.shared.now.keeps.original r inside ∙ sym (ap (λ t. block_of image t.ticket.region) c.take.ensures.0)))
+    let b = g.D.HasBoard.keeps c.args.self.now.shared.now.desk in
+    ap (λ x. x.value) c.take.ensures.1 ∙ (c.requires.claimed.words ∙ sym (ap (λ t. original_words b t.ticket.region) c.take.ensures.0))
 
 pub fill_region-done-requires-clause-place : goal.fill_region-done-requires-clause-place
 fill_region-done-requires-clause-place g c =

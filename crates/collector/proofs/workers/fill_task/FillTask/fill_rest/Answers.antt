@@ -8,6 +8,8 @@ use Rattle.claim_board.specs.Boards.{seen}
 use Rattle.claim_board.specs.RegionBoards.{moves, worker_count}
 use Rattle.collector.specs.Rest.{SettlesNext}
 use Rattle.collector.proofs.Lemmas.Rest.{begins_self, begins_all, rest_self, rest_all}
+use Rattle.std.specs.Option.{is_some}
+use Rattle.collector.proofs.Lemmas.Kept.{moves_kept}
 use Rattle.collector.proofs.workers.fill_task.FillTask.fill_rest.Goals as goal
 
 pub loop-region-init : goal.loop-region-init
@@ -38,7 +40,7 @@ returns-clause-settled g c log legal longer rest r fills =
     let image : HeapImage = c.args.self.now.shared.now.survey in
     let plan : c.plan-plan.result.now ≡ image = c.plan-plan.ensures in
     let valid : IsValid image = subst IsValid plan c.planned_image_is_valid.ensures in
-    let filled : to_fill (image_table image) r ≡ true = subst (λ m. to_fill m r ≡ true) c.args.self.now.shared.now.keeps.moves fills in
+    let filled : to_fill (image_table image) r ≡ true = subst (λ m. to_fill m r ≡ true) (moves_kept (is_some c.args.self.now.shared.now.parts) image (g.D.HasBoard.keeps c.args.self.now.shared.now.desk) c.args.self.now.shared.now.keeps) fills in
     let below : r < fill_count image = ltb-true r (fill_count image) (sym (c.regions_to_fill.ensures.count image r) ∙ (sym (c.moves_of_images.ensures.to_fill image valid r) ∙ filled)) in
     let end : c.fill_regions-region-end.result ≡ fill_count image = c.fill_regions-region-end.ensures ∙ ap fill_count plan in
     c.loop-region.invariant.below log legal longer rest r (omega (arith, below, end, c.loop-region-test.false)) fills

@@ -1,15 +1,18 @@
 use Rattle.std.proofs.Common.{◌≡◌, ◌+◌, ◌-◌, ◌≤◌, ◌<◌, ℕ, List, length, min, inl, inr, refl, sym, ◌∙◌, ap, subst, arith}
 use Rattle.std.proofs.lemmas.Bool.{cases_lt}
-use Rattle.object_heap.specs.HeapImage.{HeapImage, HasLiveList, word_at, region_words, start_of}
+use Rattle.object_heap.specs.HeapImage.{HeapImage, HasLiveList, region_words, start_of}
 use Rattle.summary.specs.NewAddresses.{prefix_end}
 use Rattle.summary.specs.WordMoves.{slid}
+use Rattle.claim_board.specs.RegionBoards.{original_words}
 use Rattle.fill.specs.WordBlocks.{IsSplitAt, Shows}
-use Rattle.fill.specs.CopiedWords.{copied_word, written_to}
+use Rattle.fill.specs.CopiedWords.{written_to}
+use Rattle.fill.specs.SlidWords.{held_word, slid_word}
 use Rattle.fill.specs.WrittenWords.{Becomes, IsCopied}
 use Rattle.fill.specs.SourceRegions.{IsNextOtherSource}
 use Rattle.fill.proofs.Lemmas.WrittenWords.{written_on, copied_from}
 use Rattle.fill.proofs.Lemmas.Slides.{slid-past, slid-monotone, split_copy}
-use Rattle.fill.proofs.Lemmas.WrittenTo.{source_behind, written_to-read, written_to-between, shows_start, length_start, next_start}
+use Rattle.fill.proofs.Lemmas.WrittenTo.{source_behind, written_to-read, written_to-between, next_start}
+use Rattle.fill.proofs.Lemmas.Held.{shows_held}
 use Rattle.fill.proofs.Lemmas.Reaching.{written_to-more}
 use Rattle.fill.proofs.region.after_prefix.AfterPrefix.copy_source.Goals as goal
 use Rattle.fill.proofs.region.after_prefix.AfterPrefix.copy_source.Goals.{After-span-read}
@@ -28,10 +31,13 @@ module _ (c : After-span-read) where
   abbrev R : ℕ
   R = region_words image
 
+  abbrev held : ℕ → List ℕ
+  held = original_words c.args.self.now.board.now
+
   next : IsNextOtherSource image d c.requires.next.0 s
   next = c.requires.next.1
 
-  before : IsCopied image d c.requires.next.0 c.args.to c.args.words.now
+  before : IsCopied image held d c.requires.next.0 c.args.to c.args.words.now
   before = c.requires.next.2
 
   own : d < c.requires.next.0
@@ -51,12 +57,12 @@ module _ (c : After-span-read) where
   on = written_to-read c.plan_laws.ensures image c.span-read.ensures.valid.live_list d s behind next.read
 
   -- the words that are read
-  read_shows : Shows (word_at image) c.span-read.result.start c.args.source.now
-  read_shows = subst (λ (n : ℕ). Shows (word_at image) n c.args.source.now) (sym c.span-read.ensures.start)
-      (subst (λ (xs : List ℕ). Shows (word_at image) (start_of image s) xs) (sym c.requires.source) (shows_start image c.span-read.ensures.valid s next.inside))
+  read_shows : Shows (held_word image held) c.span-read.result.start c.args.source.now
+  read_shows = subst (λ (n : ℕ). Shows (held_word image held) n c.args.source.now) (sym c.span-read.ensures.start)
+      (subst (λ (xs : List ℕ). Shows (held_word image held) (start_of image s) xs) (sym c.requires.source) (shows_held image held s (c.args.self.now.whole s next.inside)))
 
   read_long : length c.args.source.now ≡ R
-  read_long = ap length c.requires.source ∙ length_start image c.span-read.ensures.valid s next.inside
+  read_long = ap length c.requires.source ∙ c.args.self.now.whole s next.inside
 
   -- how far the region is written once the source is at its end, or the region
   abbrev IsWhole : ℕ → Type 0
@@ -75,9 +81,9 @@ module _ (c : After-span-read) where
   whole to end =
       end ∙ ap (λ m. min m (slid image c.span-read.result.end)) c.args.self.now.site.end ∙ ap (λ m. min (start_of image d + R) (slid image m)) c.span-read.ensures.end ∙ sym on.2
 
-  reached : (to : ℕ) (after : List ℕ) → length after ≡ length c.args.words.now → IsSplitAt (copied_word image) (word_at image) c.args.self.now.site.span.start after to → IsWhole to
-      → Becomes (IsCopied image d (s + 1) to) c.args.words.now after
-  reached to after same split end = copied_from image d s c.args.self.now.site.span.start to c.args.words.now after c.args.self.now.site.start before.block same split (whole to end)
+  reached : (to : ℕ) (after : List ℕ) → length after ≡ length c.args.words.now → IsSplitAt (slid_word image held) (held_word image held) c.args.self.now.site.span.start after to → IsWhole to
+      → Becomes (IsCopied image held d (s + 1) to) c.args.words.now after
+  reached to after same split end = copied_from image held d s c.args.self.now.site.span.start to c.args.words.now after c.args.self.now.site.start before.block same split (whole to end)
 
   more : (to : ℕ) → IsWhole to → (c.args.to ≤ to) × (to - c.args.to < 4294967296)
   more to end =
@@ -120,7 +126,7 @@ loop-from-init c =
       place = sym from.place;
       low = omega (arith, place at, site.start);
       high = omega (arith, place at, site.start, site.end);
-      split = subst (λ (n : ℕ). IsSplitAt (copied_word image) (word_at image) n c.args.words.now c.args.to) (sym site.start) (before at).split;
+      split = subst (λ (n : ℕ). IsSplitAt (slid_word image (held at)) (held_word image (held at)) n c.args.words.now c.args.to) (sym site.start) (before at).split;
       same_length = refl;
     }
 
@@ -161,8 +167,8 @@ loop-from-preserved c =
     let live = λ (q : ℕ) (l : a ≤ q) (m : q < a + n). (let below : q < c.next_run-run.result.end = omega arith in r.live q l below) in
     let past = slid-past c.plan_laws.ensures image c.loop-from.from a n c.loop-from.to h.after_prefix far h.place r.dead live in
     let now = h.same_length ∙ (before at).block in
-    let written = written_on (copied_word image) (word_at image) site.span.start (c.loop-from.to + n) c.args.words.now c.loop-from.words c.copy_from.new.self _ h.same_length c.copy_from.ensures.value c.copy_from.ensures.same_length
-    (split_copy c.plan_laws.ensures image sound site.span.start c.loop-from.words c.span-read.result.start c.args.source.now a n c.loop-from.to h.split (read_shows at) (omega arith) past.0 live (omega arith)
+    let written = written_on (slid_word image (held at)) (held_word image (held at)) site.span.start (c.loop-from.to + n) c.args.words.now c.loop-from.words c.copy_from.new.self _ h.same_length c.copy_from.ensures.value c.copy_from.ensures.same_length
+    (split_copy c.plan_laws.ensures image sound (held at) site.span.start c.loop-from.words c.span-read.result.start c.args.source.now a n c.loop-from.to h.split (read_shows at) (omega arith) past.0 live (omega arith)
     (omega (arith, now, site.start, site.end)) (omega arith) (omega (arith, read_long at, c.span-read.ensures.start, c.span-read.ensures.end))) in
     record {
       after = omega arith;

@@ -6,7 +6,7 @@ use Rattle.summary.specs.Compaction.{moved_word}
 use Rattle.fill.specs.WordBlocks.{IsSplitAt, Shows}
 use Rattle.fill.specs.CopiedWords.{copied_word}
 use Rattle.fill.specs.Objects.{IsBetween}
-use Rattle.fill.proofs.Lemmas.WrittenTo.{source_place, source_behind, shows_moved, written_to-last, next_start, reached-last}
+use Rattle.fill.proofs.Lemmas.WrittenTo.{source_place, source_behind, shows_block, next_start, reached-last}
 use Rattle.fill.proofs.Lemmas.Redirects.{between-object}
 use Rattle.fill.proofs.Lemmas.Steps.{next-place, region-first, region-none}
 use Rattle.fill.proofs.region.after_prefix.AfterPrefix.redirect_objects.Goals as goal
@@ -31,9 +31,7 @@ module _ (c : After-source-s) where
 
   -- all words for the region are copied
   shows : Shows (copied_word image) (start_of image d) c.args.words.now
-  shows =
-      let r = c.requires in
-      written_to-last c.plan_laws.ensures image c.image_is_valid.ensures d c.args.from c.args.to c.args.words.now c.args.self.now.after_prefix r.own r.within r.last r.copied.place r.copied.block r.copied.split
+  shows = subst (λ (n : ℕ). Shows (copied_word image) n c.args.words.now) c.args.self.now.site.start c.requires.copied
 
 pub source-s-requires-clause-region : goal.source-s-requires-clause-region
 source-s-requires-clause-region c = record { inside = c.args.self.now.site.inside; after_prefix = c.args.self.now.after_prefix }
@@ -73,7 +71,7 @@ redirect_row-requires-clause-between c =
     subst (IsBetween image) (sym c.new_address.ensures.value) (between-object c.plan_laws.ensures image c.image_is_valid.ensures.live_list c.in-Some.a c.in-Some.ensures.first.object)
 
 pub redirect_row-requires-clause-block : goal.redirect_row-requires-clause-block
-redirect_row-requires-clause-block c = c.requires.copied.block
+redirect_row-requires-clause-block c = c.requires.block
 
 pub redirect_row-requires-clause-split : goal.redirect_row-requires-clause-split
 redirect_row-requires-clause-split c =
@@ -90,9 +88,9 @@ returns-in-Some c =
     let site = c.args.self.now.site in
     let image : HeapImage = site.guide.now in
     let e = c.redirect_row.ensures in
-    let block = e.same_length ∙ c.requires.copied.block in
+    let block = e.same_length ∙ c.requires.block in
     let moved = subst (λ (n : ℕ). Shows (moved_word image) n c.redirect_row.new.words) site.start e.now in
-    record { same_length = e.same_length; now = shows_moved image c.image_is_valid.ensures site.region c.redirect_row.new.words block moved }
+    record { same_length = e.same_length; now = shows_block image c.image_is_valid.ensures (moved_word image) site.region c.redirect_row.new.words block moved }
 
 pub returns-in_default : goal.returns-in_default
 returns-in_default c =
@@ -102,7 +100,7 @@ returns-in_default c =
     let d : ℕ = site.region in
     let valid = c.image_is_valid.ensures in
     let r = c.requires in
-    let long = r.copied.block in
+    let long = r.block in
     let first : slid image c.first_from-first.result ≡ start_of image d = c.first_from-first.ensures.place ∙ site.start in
     let own : d < c.args.from = r.own in
     let one : c.args.from ≡ c.args.from - 1 + 1 = omega arith in
@@ -111,6 +109,6 @@ returns-in_default c =
     subst (λ (to : ℕ). p < slid image to) end (reached-last c.plan_laws.ensures image valid d c.args.from p c.args.self.now.after_prefix r.own r.within r.last l (omega (arith, m, long)) n) in
     record {
       same_length = refl;
-      now = shows_moved image valid d c.args.words.now long
+      now = shows_block image valid (moved_word image) d c.args.words.now long
           (region-none c.plan_laws.ensures image valid.live_list d c.first_from-first.result c.span-last.result.end c.args.words.now first c.in_default.ensures.first reached (shows at));
     }

@@ -1,12 +1,15 @@
 use Rattle.std.proofs.Common.{◌≡◌, ◌+◌, ◌-◌, ◌≤◌, ◌<◌, ℕ, List, length, min, true, false, refl, sym, ◌∙◌, ap, subst, arith}
-use Rattle.object_heap.specs.HeapImage.{HeapImage, HasLiveList, word_at, region_words, start_of}
+use Rattle.object_heap.specs.HeapImage.{HeapImage, HasLiveList, region_words, start_of}
 use Rattle.summary.specs.WordMoves.{slid, reads}
+use Rattle.claim_board.specs.RegionBoards.{original_words}
 use Rattle.fill.specs.WordBlocks.{IsSplitAt, Shows}
-use Rattle.fill.specs.CopiedWords.{copied_word, written_to}
+use Rattle.fill.specs.CopiedWords.{written_to}
+use Rattle.fill.specs.SlidWords.{held_word, slid_word}
 use Rattle.fill.specs.WrittenWords.{IsBlockOf}
-use Rattle.fill.proofs.Lemmas.WrittenWords.{unwritten_block, written_on, copied_from}
+use Rattle.fill.proofs.Lemmas.WrittenWords.{written_on, copied_from}
 use Rattle.fill.proofs.Lemmas.Slides.{slid-past, split_slide}
-use Rattle.fill.proofs.Lemmas.WrittenTo.{region_fits, shows_start, written_to-own, written_to-read, written_to-skip}
+use Rattle.fill.proofs.Lemmas.WrittenTo.{region_fits, written_to-own, written_to-read, written_to-skip}
+use Rattle.fill.proofs.Lemmas.Held.{shows_held}
 use Rattle.fill.proofs.Lemmas.Writing.{split_none}
 use Rattle.fill.proofs.region.after_prefix.AfterPrefix.slide_own.Goals as goal
 use Rattle.fill.proofs.region.after_prefix.AfterPrefix.slide_own.Goals.{After-image_is_valid}
@@ -25,15 +28,18 @@ module _ (c : After-image_is_valid) where
   abbrev words : List ℕ
   words = c.args.words.now
 
+  abbrev held : ℕ → List ℕ
+  held = original_words c.args.self.now.board.now
+
   block : IsBlockOf image c.args.words.now
-  block = unwritten_block image d c.args.words.now c.image_is_valid.ensures c.args.self.now.site.inside c.requires
+  block = ap length c.requires ∙ c.args.self.now.whole d c.args.self.now.site.inside
 
-  shows : Shows (word_at image) start words
-  shows = subst (λ (n : ℕ). Shows (word_at image) n words) (sym c.args.self.now.site.start)
-      (subst (λ (xs : List ℕ). Shows (word_at image) (start_of image d) xs) (sym c.requires) (shows_start image c.image_is_valid.ensures d c.args.self.now.site.inside))
+  shows : Shows (held_word image held) start words
+  shows = subst (λ (n : ℕ). Shows (held_word image held) n words) (sym c.args.self.now.site.start)
+      (subst (λ (xs : List ℕ). Shows (held_word image held) (start_of image d) xs) (sym c.requires) (shows_held image held d (c.args.self.now.whole d c.args.self.now.site.inside)))
 
-  split : IsSplitAt (copied_word image) (word_at image) start words start
-  split = split_none (copied_word image) (word_at image) start words shows
+  split : IsSplitAt (slid_word image held) (held_word image held) start words start
+  split = split_none (slid_word image held) (held_word image held) start words shows
 
 pub returns-then-not-reads_itself : goal.returns-then-not-reads_itself
 returns-then-not-reads_itself c =
@@ -45,7 +51,7 @@ returns-then-not-reads_itself c =
     let d : ℕ = site.region in
     let behind = c.args.self.now.after_prefix in
     let unread : reads image d d ≡ false = sym c.reads_itself.ensures ∙ c.if-not-reads_itself.true in
-    copied_from image d d site.span.start site.span.start c.args.words.now c.args.words.now site.start (block at) (refl) (split at)
+    copied_from image (held at) d d site.span.start site.span.start c.args.words.now c.args.words.now site.start (block at) (refl) (split at)
     (site.start ∙ sym (written_to-own c.plan_laws.ensures image sound d) ∙ written_to-skip c.plan_laws.ensures image sound d d behind behind (region_fits image valid d site.inside) unread)
 
 pub first_from-from-requires-clause-region : goal.first_from-from-requires-clause-region
@@ -123,8 +129,8 @@ loop-from-preserved c =
     let past = slid-past c.plan_laws.ensures image c.loop-from.from a n c.loop-from.to h.after_prefix far h.place r.dead live in
     let down = c.plan_laws.ensures.slid-le image a in
     let now = h.same_length ∙ (block at) in
-    let written = written_on (copied_word image) (word_at image) site.span.start (c.loop-from.to + n) c.args.words.now c.loop-from.words c.slide.new.self _ h.same_length c.slide.ensures.value c.slide.ensures.same_length
-    (split_slide c.plan_laws.ensures image sound site.span.start c.loop-from.words a n c.loop-from.to h.split (omega arith) past.0 live (omega arith) (omega (arith, now, site.start, site.end))) in
+    let written = written_on (slid_word image (held at)) (held_word image (held at)) site.span.start (c.loop-from.to + n) c.args.words.now c.loop-from.words c.slide.new.self _ h.same_length c.slide.ensures.value c.slide.ensures.same_length
+    (split_slide c.plan_laws.ensures image sound (held at) site.span.start c.loop-from.words a n c.loop-from.to h.split (omega arith) past.0 live (omega arith) (omega (arith, now, site.start, site.end))) in
     record {
       after = omega arith;
       inside = omega arith;
@@ -151,4 +157,4 @@ returns c =
     let last : c.loop-from.from ≡ start_of image d + region_words image = omega (arith, h.inside, site.end) in
     let end : c.loop-from.to ≡ slid image (start_of image d + region_words image) = h.place ∙ ap (slid image) last in
     let whole : c.loop-from.to ≡ written_to image (start_of image d) (start_of image d + region_words image) = omega arith in
-    copied_from image d d site.span.start c.loop-from.to c.args.words.now c.loop-from.words site.start (block at) h.same_length h.split whole
+    copied_from image (held at) d d site.span.start c.loop-from.to c.args.words.now c.loop-from.words site.start (block at) h.same_length h.split whole

@@ -2,7 +2,7 @@ use Rattle.std.proofs.Common.{◌≡◌, ◌+◌, ◌-◌, ◌≤◌, length, ma
 use Rattle.object_heap.specs.HeapImage.{region_count}
 use Rattle.scheduler.specs.ImageMoves.{image_table}
 use Rattle.claim_board.specs.Boards.{board_of, caller}
-use Rattle.claim_board.specs.RegionBoards.{moves, identity, Holds}
+use Rattle.claim_board.specs.RegionBoards.{moves, identity, original_words, Holds}
 use Rattle.claim_board.specs.Tickets.{IsTicketOf, IsSwept}
 use Rattle.fill.specs.WrittenWords.{IsCopied}
 use Rattle.fill.specs.SourceDrains.{HasDrained}
@@ -21,7 +21,7 @@ invariant-loop-opening g l = record {
   drained : HasDrained (λ f s h. goal.F-step g f s tt h) (image_table l.self.site.guide.now) l.self.site.region l.ticket.ticket.next (caller l.fn.seat.pass) (caller l.seat.pass) l.fn.on_last l.on_last;
   inside : l.ticket.ticket.next ≤ region_count l.self.site.guide.now;
   next : l.from ≡ max l.ticket.ticket.next (l.self.site.region + 1);
-  copied : IsCopied l.self.site.guide.now l.self.site.region l.from l.to l.words;
+  copied : IsCopied l.self.site.guide.now (original_words (g.D.HasBoard.keeps l.self.desk.now)) l.self.site.region l.from l.to l.words;
   same_length : length l.words ≡ length l.fn.words;
 }
 

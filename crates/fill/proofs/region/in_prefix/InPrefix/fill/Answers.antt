@@ -3,7 +3,7 @@ use Rattle.object_heap.specs.HeapImage.{HeapImage}
 use Rattle.summary.specs.Compaction.{moved_word}
 use Rattle.fill.specs.WordBlocks.{Shows}
 use Rattle.fill.proofs.Lemmas.WrittenWords.{unwritten_block}
-use Rattle.fill.proofs.Lemmas.WrittenTo.{shows_moved}
+use Rattle.fill.proofs.Lemmas.WrittenTo.{shows_block}
 use Rattle.fill.proofs.region.in_prefix.InPrefix.fill.Goals as goal
 
 pub redirect_objects-requires-clause-block : goal.redirect_objects-requires-clause-block
@@ -24,4 +24,4 @@ returns c =
     let same = c.redirect_objects.ensures.same_length ∙ c.write_fillers.ensures.same_length in
     let whole = same ∙ block in
     let shows = subst (λ (n : ℕ). Shows (moved_word image) n c.redirect_objects.new.words) site.start c.redirect_objects.ensures.now in
-    record { same_length = same; now = shows_moved image valid site.region c.redirect_objects.new.words whole shows }
+    record { same_length = same; now = shows_block image valid (moved_word image) site.region c.redirect_objects.new.words whole shows }

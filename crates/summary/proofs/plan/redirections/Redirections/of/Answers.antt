@@ -56,7 +56,7 @@ invariant_of-result c =
     let prefix = c.requires.prefix in
     let begins : first ≡ first_rank m = omega arith in
     let long = are.room in
-    let is : c.of-2.result.value ≡ m = c.of-2.ensures in
+    let is : c.surveyed.result.value ≡ m = c.surveyed.ensures in
     subst (λ (g : HeapImage). AreRedirections g live c.in_ok-ranks.ranks) (sym is) (record {
       valid = c.len.ensures.valid;
       are_live = are;
