@@ -47,7 +47,7 @@ sources_sum() {
 
 # Prints the checksum of the files of C in the library, and of what they include but pcompact.h.
 around_sum() {
-    files=$(cd -- "$top/c" && sha256sum heap.[ch] in_place.c lent.[ch] slide.c freestanding/*.h) 2>/dev/null && printf '%s\n' "$files" | sum_only
+    files=$(cd -- "$top/c" && sha256sum heap.[ch] in_place.c lent.[ch] segments.c slide.c freestanding/*.h) 2>/dev/null && printf '%s\n' "$files" | sum_only
 }
 
 # Prints what the stamp of a folder has behind a word.

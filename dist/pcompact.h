@@ -3,7 +3,7 @@
  * Link libpcompact.a. It takes memory by malloc, unless the program defines the three functions of heap.c: any allocator
  * that aligns to 16 bytes and that several threads may call can stand in its place. Each call is proved but pcompact_cut and
  * pcompact_is_live, those in place, those of several threads over lent words, and slides: these are a few lines of C, here, in
- * in_place.c, in lent.c and in slide.c, around calls that are proved, and are only tested.
+ * in_place.c, in lent.c, in slide.c and in segments.c, around calls that are proved, and are only tested.
  *
  * No fault loses a heap: this is proved, but for words that are lent or slid, of which it is only tested. What a caller mixes up
  * of a collection or slide by several threads is fault 12.
@@ -194,6 +194,10 @@ enum {
  * held. Takes no memory. `handle` isn't null. */
 uint64_t pcompact_new_address(pcompact_handle *handle, uint64_t address);
 
+/* The first address from `from` on at which a live object begins, by the handle of a slide's plan. UINT64_MAX if there is none, or
+ * the handle has no plan. Takes no memory. `handle` isn't null. */
+uint64_t pcompact_next_object(pcompact_handle *handle, uint64_t from);
+
 /* Whether a live object has the word at this address, by such a handle. */
 static inline bool pcompact_is_live(pcompact_handle *handle, uint64_t address) {
     return pcompact_new_address(handle, address) != UINT64_MAX;
@@ -203,7 +207,8 @@ static inline bool pcompact_is_live(pcompact_handle *handle, uint64_t address) {
  * machine pointers into one row of words `base` is the address of the first and `unit` is 3. Only the low 6 bits of it count. */
 typedef struct pcompact_slot_coding {
     uint64_t base;
-    uint64_t dead; /* what takes the place of a slot that leads to a word that no live object has */
+    uint64_t word_count; /* how many words slots lead to, from address 0: a slot that leads farther stays */
+    uint64_t dead;       /* what takes the place of a slot that leads to a word that no live object has */
     uint32_t unit;
 } pcompact_slot_coding;
 
@@ -213,6 +218,14 @@ typedef struct pcompact_slot_coding {
  * then all stay. Takes no memory. No pointer is null, also with a count of 0, nothing overlaps the slots, and nobody reads or
  * writes them meanwhile. */
 uint32_t pcompact_redirect(pcompact_handle *handle, uint64_t *slots, size_t slot_count, pcompact_slot_coding coding);
+
+/* The same of slots that lie apart, each of which a pointer leads to, and none twice. */
+static inline uint32_t pcompact_redirect_each(pcompact_handle *handle, uint64_t *const *slots, size_t slot_count,
+                                              pcompact_slot_coding coding) {
+    uint32_t how = handle->is_held ? PCOMPACT_SETTLED : PCOMPACT_NOT_HELD;
+    for (size_t i = 0; i < slot_count; i++) how |= pcompact_redirect(handle, slots[i], 1, coding);
+    return how;
+}
 
 /* Fills regions that are ready by the worker of a handle, at most `turns`. Returns how far the work has come. Takes no memory
  * and never waits. `handle` isn't null. */
@@ -248,13 +261,6 @@ uint32_t pcompact_end_in_place(pcompact_handle *handles, size_t worker_count, pc
  * they are. It reads and changes nothing inside of them, needs no header, and keeps their order; all references are the host's to
  * redirect. First a plan says where words will go, while they are still the host's; then its threads slide them, in place.
  *
- * A heap in chunks that no object crosses is a slide for each chunk. Each thread then has a handle of each slide, and calls
- * pcompact_work by one after the other, again and again, until all are settled. Each slot is redirected by the plan of the chunk
- * that it leads to.
- *
- * To pcompact_redirect the last region is whole: where regions don't divide the words, a slot that leads right behind the heap, to
- * a word that the last region lacks, becomes `dead` too.
- *
  * A slide begins as all zeros; afterwards only the library writes its fields, and nobody copies it. One call at a time uses it. */
 typedef struct pcompact_slide {
     pcompact_handle plan;    /* until the slide begins: for pcompact_new_address, pcompact_is_live and pcompact_redirect alone */
@@ -278,11 +284,19 @@ typedef struct pcompact_slide {
 pcompact_fault pcompact_plan(uint64_t *words, size_t word_count, const uint64_t *live, const uint32_t *sizes, size_t live_count,
                              pcompact_settings settings, pcompact_slide *slide);
 
+/* Gives another handle the plan of this one too: so several threads can ask where words will go, and redirect slots, at once, each
+ * by a handle of its own. Returns the fault, 12 if this one has no plan or the other is held, or 11 if memory runs out. After a
+ * fault all is as it was. No pointer is null. */
+pcompact_fault pcompact_share_plan(pcompact_handle *plan, pcompact_handle *other);
+
+/* Forgets the plan of a handle, if it has one. Returns 0, or 12 for a worker's part, which it keeps. */
+uint32_t pcompact_forget(pcompact_handle *plan);
+
 /* Begins the slide that is planned, by 1 to 64 workers, and gives each of these handles a worker's part, for pcompact_work or
- * pcompact_work_all. From here to the end only the library uses the words. Returns the fault: 12 if nothing is planned, there
- * aren't 1 to 64 handles or one is held, or 11 if memory runs out. After a fault all is as it was, and planned. Takes the memory
- * of so many workers, 24 bytes for each region, and, where the last region is shorter than the others, the words of one. No
- * pointer is null, and the plan isn't among the handles. */
+ * pcompact_work_all. From here to the end only the library uses the words. Returns the fault: 12 if nothing is planned, another
+ * handle has the plan too, there aren't 1 to 64 handles or one is held, or 11 if memory runs out. After a fault all is as it was,
+ * and planned. Takes the memory of so many workers, 24 bytes for each region, and, where the last region is shorter than the
+ * others, the words of one. No pointer is null, and the plan isn't among the handles. */
 pcompact_fault pcompact_begin_slide(pcompact_slide *slide, pcompact_handle *handles, size_t worker_count);
 
 /* Ends a slide by all its handles, in any order, once no other call uses them: fills what is left to fill. Afterwards the words
@@ -296,6 +310,60 @@ uint32_t pcompact_end_slide(pcompact_slide *slide, pcompact_handle *handles, siz
 
 /* Forgets what is planned, if it is, and frees its memory. Returns 0, or 12 if the slide has begun, which then goes on. */
 uint32_t pcompact_forget_slide(pcompact_slide *slide);
+
+/* A heap in segments that no object crosses, such as chunks that lie apart. Each segment is a slide, by the same workers: objects
+ * stay in theirs. The host fills the fields, and keeps slides and handles, which begin as all zeros. */
+typedef struct pcompact_segments {
+    pcompact_slide *slides; /* of each segment, by ascending addresses of their words */
+    size_t segment_count;
+    pcompact_handle *handles; /* of the workers, as many as pcompact_segment_handles says */
+    size_t worker_count;
+    uint64_t tag;  /* what a slot that leads to a word has above the word's machine address */
+    uint64_t dead; /* what takes the place of a slot that leads to a word that no live object has */
+    size_t recent; /* the segment to which a slot led last: 0 at first, and only the library writes it */
+} pcompact_segments;
+
+/* How many handles so many workers of so many segments have. Those of two workers share no line of a cache. */
+static inline size_t pcompact_segment_handles(size_t segment_count, size_t worker_count) {
+    return (segment_count / 8 + 2) * 8 * worker_count;
+}
+
+/* The words of a segment and its objects, as pcompact_plan has them: addresses count from the segment's first word. */
+typedef struct pcompact_segment {
+    uint64_t *words;
+    size_t word_count;
+    const uint64_t *live;
+    const uint32_t *sizes;
+    size_t live_count;
+} pcompact_segment;
+
+/* Plans the slides of these segments. A host can also plan each by pcompact_plan, by several threads. Returns the fault of the
+ * first segment that has one, whose index is in `segment` then, and nothing is planned: those of pcompact_plan. */
+pcompact_fault pcompact_plan_segments(const pcompact_segments *heap, const pcompact_segment *segments,
+                                      pcompact_settings settings, size_t *segment);
+
+/* Shares each segment's plan with its workers' handles, so that each worker can redirect. Returns the fault, 12 if a segment isn't
+ * planned or a handle is held, or 11 if memory runs out. After a fault all is as it was. */
+pcompact_fault pcompact_share_segments(const pcompact_segments *heap);
+
+/* Redirects slots by a worker's handles, before or after the begin: each that leads to a word of a segment leads to where its slide
+ * takes the word, or becomes `dead`. All others stay. Several workers may do so at once, each by its own copy of the struct.
+ * Returns PCOMPACT_SETTLED, or PCOMPACT_NOT_HELD if a slot led to a segment whose handle isn't held, and stays. */
+uint32_t pcompact_redirect_segments(pcompact_segments *heap, size_t worker, uint64_t *slots, size_t slot_count);
+
+/* Begins the slides that haven't begun, by all workers, whose shares of plans are forgotten. Returns the first fault, which is one
+ * of pcompact_begin_slide: then the segments before have begun, and another call begins the others. */
+pcompact_fault pcompact_begin_segments(const pcompact_segments *heap);
+
+/* Lets a worker fill regions that are ready, at most `turns` of each segment. Returns what pcompact_work returns, of all of them. */
+uint32_t pcompact_work_segments(const pcompact_segments *heap, size_t worker, uint64_t turns);
+
+/* Ends the slides that have begun, and writes the answer of each in its place. Returns the first fault, which is one of
+ * pcompact_end_slide: then the segments before have ended, and another call ends the others. */
+uint32_t pcompact_end_segments(const pcompact_segments *heap, bool clears, pcompact_answer *answers);
+
+/* Forgets all plans. Returns 0, or 12 if a slide has begun, and then none. */
+uint32_t pcompact_forget_segments(const pcompact_segments *heap);
 
 /* Redirects references that are kept outside of the heap with these words and live addresses to where pcompact_collect will
  * take their objects; to be called before it. Each is 0, which stays, or 1 plus a live address. Returns the fault: 0, 3, 4,

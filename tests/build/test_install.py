@@ -332,7 +332,7 @@ def try_words(to: Installer) -> None:
 def try_unfit(to: Installer) -> None:
     """No program or no library that fits the sources."""
     of_program = ("dist/pcompact", "crates/pcompact/src/main.rt", "dist/stamp")
-    of_c = ("heap.c", "heap.h", "in_place.c", "lent.c", "lent.h", "slide.c", "freestanding/stdint.h")
+    of_c = ("heap.c", "heap.h", "in_place.c", "lent.c", "lent.h", "segments.c", "slide.c", "freestanding/stdint.h")
     of_library = ("dist/libpcompact.a", "dist/pcompact.h", "c/pcompact.h", *(f"c/{it}" for it in of_c))
     for change in (*of_program, *of_library):
         copy = to.repository(f"changed/{change}", SHOWS)

@@ -648,7 +648,7 @@ def try_library(it: Launcher, copy: pathlib.Path) -> None:
     clone = shipped(it, copy, "library")
     library, stamp = clone / "dist/libpcompact.a", clone / "dist/stamp"
     members = subprocess.run(["ar", "t", library], capture_output=True, text=True).stdout.split()
-    it.check(sorted(members) == ["heap.o", "in_place.o", "lent.o", "part.o", "slide.o"], f"the library has {members}")
+    it.check(sorted(members) == ["heap.o", "in_place.o", "lent.o", "part.o", "segments.o", "slide.o"], f"the library has {members}")
     finds(it, clone, "dist", "a fresh clone")
     said, calls = it.call([clone / "prove", "pcompact_c"], 0, "prove pcompact_c in a clone")
     it.check("is dist/libpcompact.a, byte for byte" in said and "dist/pcompact" not in said, f"prove pcompact_c: {said!r}")
@@ -666,7 +666,7 @@ def try_library(it: Launcher, copy: pathlib.Path) -> None:
     stamp.write_text(text)
     unbuilt = "wasn't built from these sources"
     for name, why in (("pcompact.h", "dist/pcompact.h isn't c/pcompact.h"), ("heap.c", unbuilt), ("in_place.c", unbuilt), ("lent.c", unbuilt),
-                      ("slide.c", unbuilt)):
+                      ("segments.c", unbuilt), ("slide.c", unbuilt)):
         with (clone / "c" / name).open("a") as file:
             file.write("/* More. */\n")
         finds(it, clone, why, f"c/{name} changed")

@@ -37,7 +37,7 @@ BUDGETS = {
 }
 ALL_WORDS = 31_000
 CRATE_WORDS = 200
-CRATES_WORDS = 2_760
+CRATES_WORDS = 2_870
 # The pages that aren't as this script wants them yet: it passes them over.
 README_LINE, README_CELL, LINE = 160, 80, 400
 

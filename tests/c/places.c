@@ -60,7 +60,7 @@ static void new_addresses_are_those_of_the_end(void) {
 static void slots_are_redirected(uint64_t base, uint32_t unit) {
     heap it;
     uint64_t step = UINT64_C(1) << (unit % 64), slots[WORDS + 4], old[WORDS + 4];
-    pcompact_slot_coding coding = {base, DEAD, unit};
+    pcompact_slot_coding coding = {base, WORDS, DEAD, unit};
     make_heap(&it);
     check(begin(&it), "begin");
     for (uint64_t a = 0; a <= WORDS; a++) slots[a] = base + a * step;

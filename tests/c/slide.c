@@ -40,13 +40,25 @@ static void work(session *s, size_t workers, enum how how) {
     if (how != NOT_AT_ALL) work_by_threads(s->handles, workers, how == ALL_AT_ONCE ? work_all : work_in_turns);
 }
 
+/* Whether a plan lists the objects of a heap. */
+static bool lists(pcompact_handle *plan, const heap *it) {
+    uint64_t at = pcompact_next_object(plan, 0);
+    for (size_t i = 0; i < it->live_count; i++) {
+        if (at != it->live[i] || pcompact_next_object(plan, at) != at) return false;
+        at = pcompact_next_object(plan, at + 1);
+    }
+    return at == UINT64_MAX && pcompact_next_object(plan, UINT64_MAX) == UINT64_MAX;
+}
+
 /* Slides a heap, and compares it with the model. */
 static void slide(heap *it, session *s, size_t workers, enum how how, bool clears, size_t number) {
     static wanted to;
     want(it, clears, &to);
     if (!check(plan(it, s).number == 0 && is_planned(s, it), "a plan", number)) return;
     check(leads_to(&s->slide.plan, it, to.to), "where words go by a plan", number);
+    check(lists(&s->slide.plan, it), "objects by a plan", number);
     if (!check(begin(s, workers) == 0 && held_handles(s) == workers, "a begin", number)) return;
+    check(pcompact_next_object(s->handles, 0) == UINT64_MAX, "no objects by a worker's handle", number);
     check(!s->slide.plan.is_held && leads_to(&s->handles[workers - 1], it, to.to), "where words go by a handle", number);
     work(s, workers, how);
     end_well(it, s, workers, clears, &to, number);
@@ -132,7 +144,7 @@ static void make_cells(void) {
         heap *it = &chunks[c].heap;
         make_heap(it, 500 + below(200), GUARD, (pcompact_settings){3 + (uint32_t)c, c == 1 ? 60 : 0});
         chunks[c].session = no_session;
-        chunks[c].coding = (pcompact_slot_coding){(uintptr_t)it->words, DEAD, 3};
+        chunks[c].coding = (pcompact_slot_coding){(uintptr_t)it->words, it->word_count, DEAD, 3};
         for (uint64_t at = below(5); at + DATA + 6 <= it->word_count && cell_count < MOST_CELLS;) {
             cell made = {.chunk = c, .size = DATA + below(7), .at = at, .is_live = below(2) == 0};
             if (made.is_live) add_object(it, at, made.size);
@@ -239,8 +251,8 @@ static void redirect_behind(void) {
     add_object(&it, 1, 20);
     uint64_t base = (uintptr_t)it.words, last = base + 8 * 20;
     uint64_t slots[6] = {base + 8, last, last + 8, last + 24, last + 32, base - 8};
-    uint64_t wanted[6] = {base, last - 8, DEAD, DEAD, last + 32, base - 8};
-    pcompact_slot_coding coding = {base, DEAD, 3};
+    uint64_t wanted[6] = {base, last - 8, last + 8, last + 24, last + 32, base - 8};
+    pcompact_slot_coding coding = {base, 21, DEAD, 3};
     check(plan(&it, &s).number == 0, "a plan", 0);
     check(pcompact_redirect(&s.slide.plan, slots, 6, coding) == PCOMPACT_SETTLED, "a redirection", 0);
     check(memcmp(slots, wanted, sizeof slots) == 0, "slots behind the heap", 0);

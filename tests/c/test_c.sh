@@ -63,8 +63,10 @@ build lent -Itests/c tests/c/{lent,refusing_heap}.c
 build ends -Itests/c tests/c/{ends,refusing_heap}.c
 build places -Itests/c tests/c/{places,checks}.c
 build slide_refusals -Itests/c tests/c/{slide_refusals,opaque,refusing_heap}.c
-build slide -pthread -Itests/c tests/c/{slide,opaque,refusing_heap}.c
-build_c slide-raced -g -fsanitize=thread -pthread -Itests/c tests/c/{slide,opaque,refusing_heap}.c
+for caller in slide segments; do
+    build "$caller" -pthread -Itests/c tests/c/{"$caller",opaque,refusing_heap}.c
+    build_c "$caller-raced" -g -fsanitize=thread -pthread -Itests/c tests/c/{"$caller",opaque,refusing_heap}.c
+done
 for caller in threads lent_threads in_place; do
     build "$caller" -pthread -Itests/c tests/c/{"$caller",refusing_heap}.c
     build_c "$caller-raced" -g -fsanitize=thread -pthread -Itests/c tests/c/{"$caller",refusing_heap}.c
@@ -81,9 +83,11 @@ run places
 try "$room/lent" 1000
 run lent 100
 run slide_refusals
-try "$room/slide" 2000
-run slide 100
-try env TSAN_OPTIONS=suppressions=tests/c/threads.supp "$room/slide-raced" 100
+for caller in slide segments; do
+    try "$room/$caller" 2000
+    run "$caller" 100
+    try env TSAN_OPTIONS=suppressions=tests/c/threads.supp "$room/$caller-raced" 100
+done
 for caller in threads lent_threads in_place; do
     run "$caller"
     try env TSAN_OPTIONS=suppressions=tests/c/threads.supp "$room/$caller-raced"

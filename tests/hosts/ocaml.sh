@@ -4,7 +4,8 @@
 # by 4 workers. All must print and write what they do by the unchanged runtime. Takes some minutes of one processor, and Debian's
 # source package of OCaml: where that can't be fetched, all is skipped.
 #
-# usage: tests/hosts/ocaml.sh [ocaml_4.13.1.orig.tar.gz]
+# usage: tests/hosts/ocaml.sh [--pauses] [ocaml_4.13.1.orig.tar.gz]
+#   --pauses   only times compactions of 1, 10 and 50 million live words, beside OCaml's own
 set -uo pipefail
 
 cd "$(dirname -- "$(readlink -f -- "$0")")/../.."
@@ -14,6 +15,8 @@ cd "$(dirname -- "$(readlink -f -- "$0")")/../.."
 ocaml=$room/ocaml
 runtime=$ocaml/runtime/ocamlrun
 compacting=$ocaml/runtime/ocamlrun-pcompact
+# The same with OCaml's own passes.
+timed=$ocaml/runtime/ocamlrun-timed
 # A young generation and chunks as small as OCaml has them.
 often=O=0,s=512,h=60k,i=4k,o=5
 # No program of the test suite begins once so many seconds of a processor are used.
@@ -26,23 +29,43 @@ build_ocaml() (
         nice make -j2 coldstart
 )
 
+# What OCaml's file calls to time a compaction.
+timing='#include <time.h>
+#define TIMED(step) do { \
+    struct timespec begun, ended; \
+    clock_gettime (CLOCK_MONOTONIC, &begun); \
+    step; \
+    clock_gettime (CLOCK_MONOTONIC, &ended); \
+    caml_gc_message (0x2000, "compacted in %ld us\n", \
+                     1000000 * (ended.tv_sec - begun.tv_sec) + (ended.tv_nsec - begun.tv_nsec) / 1000); \
+} while (0)'
+
 # Puts our call into compact.c, around the passes that redirect and move, and has each major cycle end in a compaction, of small
-# heaps too.
+# heaps too. With 0x2000 in `v` of OCAMLRUNPARAM each says how many microseconds it took.
 patch_compaction() {
-    sed -e 's/^void caml_invert_root (/int slide_heap (void);\nvoid own_invert_root (/' \
+    printf '%s\n' "$timing" >timed.h
+    sed -e '1i #include "timed.h"' -e 's/^  \(do_compaction (new_allocation_policy)\);/  TIMED (\1);/' \
+        -e 's/^void caml_invert_root (/int slide_heap (void);\nvoid own_invert_root (/' \
         -e 's|^  /\* Second pass: invert pointers\.|  if (!slide_heap ()) {\n&|' \
         -e 's|^  /\* Shrink the heap if needed\. \*/|  }\n&|' \
         -e '/(Caml_state->stat_major_collections < 3) return;/d' \
         -e '/(Caml_state->stat_heap_wsz <= 2 \* caml_clip_heap_chunk_wsz (0)) return;/d' compact.c >patched.c
 }
 
-# Links the runtime with its compaction patched, with our file, and with the library.
+# What stands in the place of our file where OCaml's own passes are to be timed.
+own='#include "caml/mlvalues.h"
+void own_invert_root (value it, value *slot);
+void caml_invert_root (value it, value *slot) { own_invert_root (it, slot); }
+int slide_heap (void) { return 0; }'
+
+# Links the runtime with its compaction patched, with our file or none, and with the library.
 build_compacting() (
     words=("${CC:-cc}" -g -O2 -fno-strict-aliasing -fwrapv -D_FILE_OFFSET_BITS=64 -DCAML_NAME_SPACE -I.)
     cd "$ocaml/runtime" && patch_compaction && "${words[@]}" -c patched.c &&
         "${words[@]}" -Wall -Wextra -Werror "-I$library" -c -o slide.o "$top/examples/ocaml/compact.c" &&
-        cp libcamlrun.a patched.a && ar d patched.a compact.b.o &&
-        "${words[@]}" -Wl,-E prims.o patched.o slide.o patched.a "$library/libpcompact.a" -lm -ldl -pthread -o "$compacting"
+        printf '%s\n' "$own" >own.c && "${words[@]}" -c own.c && cp libcamlrun.a patched.a && ar d patched.a compact.b.o &&
+        "${words[@]}" -Wl,-E prims.o patched.o slide.o patched.a "$library/libpcompact.a" -lm -ldl -pthread -o "$compacting" &&
+        "${words[@]}" -Wl,-E prims.o patched.o own.o patched.a -lm -ldl -o "$timed"
 )
 
 compile() {
@@ -138,6 +161,31 @@ try_suite() {
     tell "$programs programs of the test suite, of which $sliding were compacted"
 }
 
+# Prints a heap's live words and blocks, the shortest compaction in microseconds, and the most memory in KiB.
+time_compactions() {
+    OCAMLRUNPARAM=v=0x2000 "$1" "$room/pauses" "$2" 2>&1 | sed -n 's/^compacted in \(.*\) us/1 \1/p; s/^pauses /0 /p' | sort -n |
+        awk '$1 == 0 { found = $2 " " $3; most = $4 } $1 == 1 && !least { least = $2 } END { print found, least, most }'
+}
+
+show_pauses() {
+    local workers words blocks time most
+    read -r words blocks time most < <(time_compactions "$timed" "$1")
+    printf "%s live words, %s blocks: %s us by OCaml's own, %s KiB\n" "$words" "$blocks" "$time" "$most"
+    for workers in 1 2 4; do
+        read -r words blocks time most < <(PCOMPACT_WORKERS=$workers time_compactions "$compacting" "$1")
+        printf '    %s us by the library, %s KiB, threads: %s\n' "$time" "$most" "$workers"
+    done
+}
+
+time_pauses() {
+    local lists
+    cp tests/hosts/pauses.ml "$room/here"
+    try compile "$room/pauses" "$room/here/pauses.ml"
+    for lists in 140000 1400000 7000000; do show_pauses "$lists"; done
+}
+
+pauses=
+[ "${1-}" != --pauses ] || { pauses=yes && shift; }
 find_needs
 find_sources "${1-}" ocaml 'ocaml_4.13.*.orig.tar.*' 'OCaml 4.13'
 try build_ocaml "$archive"
@@ -145,7 +193,11 @@ try build_ocaml "$archive"
 [ "$failed" = 0 ] || end
 mkdir "$room/here"
 export TMPDIR=$room/here
-try_heaps
-try_compiler
-try_suite
+if [ -n "$pauses" ]; then
+    time_pauses
+else
+    try_heaps
+    try_compiler
+    try_suite
+fi
 end

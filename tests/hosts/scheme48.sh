@@ -22,16 +22,20 @@ build_scheme48() (
         ./configure --enable-gc=twospace CFLAGS='-O2 -g -fcommon -w' && nice make
 )
 
-# Takes the collector out of the heap, whose variables our file uses, and has it take one space. Of the machine our file uses the
-# list of finalizers.
+# Takes the collector out of the heap, whose variables our file uses, and has it take one space. The walks of heap and machine over
+# their roots tell our file where these are: variables, and on the stack pointers into code.
 patch_machine() {
-    local replaced='collect\|extantP\|initializing_gc_root\|trace_\(value\|locationsB\|stob_contentsB\|continuation_contentsB\)'
-    sed -e "/^[a-z].*[^;]\$/s/ s48_\($replaced\)(/ own_\1(/" \
-        -e 's/^static \(.* \(Snewspace_beginS\|SinitializingPS\|Sgc_\(count\|seconds\|mseconds\)S\);\)$/\1/' \
-        -e '1i char *take_heap (long);' \
-        -e 's/(char \*)malloc((PS_SHIFT_LEFT_INLINE(\(heap_size_[0-9]*X\), 4)))/take_heap(\1)/' \
+    local replaced='collect\|extantP\|trace_\(value\|locationsB\|stob_contentsB\)' variable='\(s48_\)\?S[a-z0-9_]*S'
+    sed -e "/^[a-z].*[^;]\$/s/ s48_\($replaced\)(/ own_\1(/" -e '1i long trace_root(long *);' \
+        -e 's/^static \(.* \(Snewspace_beginS\|Sgc_\(count\|seconds\|mseconds\)S\);\)$/\1/' \
+        -e "s/\( stob_[0-9]*X = \)\($variable\);/\1trace_root(\&\2);/" \
+        -e 's/\(malloc((PS_SHIFT_LEFT_INLINE(heap_size_[0-9]*X, \)4/\13/' \
         -e 's/if (((Soldspace_beginS) == image_start_address_[0-9]*X))/if (0)/' c/scheme48-twospace-heap-64.c >patched-heap.c &&
-        sed 's/^static \(long Sfinalizer_alistS;\)$/\1/' c/scheme48vm-64.c >patched-vm.c
+        sed -e '1i long trace_root(long *);\nvoid trace_code(char *);' \
+            -e 's/^static \(.* \(Sfinalizer_alistS\|Slast_code_pointer_resumedS\);\)$/\1/' \
+            -e "s/s48_trace_value((\($variable\|\*((long \*) cell_[0-9]*X)\)))/trace_root(\&\1)/" \
+            -e "s/s48_trace_value(v_[0-9]*X);SHARED_SETB((\($variable\)), v_[0-9]*X)/trace_root(\&\1)/" \
+            -e 's/^  \*((long \*) \(cont_[0-9]*X\)) = .*/&trace_code(\1);/' c/scheme48vm-64.c >patched-vm.c
 }
 
 # Links the machine with these two, with our file, and with the library.
@@ -44,9 +48,10 @@ build_compacting() (
             $(sed -n 's/^LIBS = //p' Makefile) -pthread -o "$compacting"
 )
 
-# Has a machine run its test suite, as `make check` does, within an hour of a processor.
+# Has a machine run its test suite, as `make check` does, within an hour of a processor. It prints `ms)` where its profiler had
+# time to take samples.
 check_with() {
-    (cd "$scheme48" && ulimit -t 3600 && exec make -s -o scheme48.image -o "$1" check "VM=$1")
+    (cd "$scheme48" && ulimit -t 3600 && exec make -s -o scheme48.image -o "$1" check "VM=$1") | sed 's/ms)//g'
 }
 
 # Has a machine with a heap of so many words run one of our programs, with a number of its own, once it has these structures.
@@ -73,7 +78,7 @@ run_compacting() {
     take_slides "$workers"
 }
 
-# A program with all kinds of references, also in a heap above the 32 MiB of a live list.
+# A program with all kinds of references, also in a heap above 32 MiB.
 try_heaps() {
     local workers words
     for words in 3000000 9000000; do

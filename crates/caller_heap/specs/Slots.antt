@@ -9,12 +9,12 @@ module _ (image : HeapImage) (c : SlotCoding) where
   abbrev pub step : ℕ
   step = 2 ^ (c.unit % 64)
 
-  -- the address of the word to which a slot leads, if it leads to one
+  -- the address of the word to which a slot leads, if it leads to one of the first words of the heap
   abbrev pub place_of : ℕ → ℕ
   place_of slot = (slot - c.base) / step
 
   abbrev pub leads : ℕ → Bool
-  leads slot = nat_le c.base slot && ((slot - c.base) % step == 0) && nat_lt (place_of slot) (heap_words image)
+  leads slot = nat_le c.base slot && ((slot - c.base) % step == 0) && nat_lt (place_of slot) c.word_count && nat_lt (place_of slot) (heap_words image)
 
   -- a slot that leads to a word leads to where the word goes, or is dead
   unfoldable pub redirected_slot : ℕ → ℕ

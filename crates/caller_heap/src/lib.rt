@@ -4,7 +4,7 @@
 //! were. A call works on a copy of the words, and copies them back, but for those over lent words, which copy none.
 //!
 //! A slide of opaque objects, by [`begin_slide`] and [`end_slide`], works on lent words too: proved is where each word lies
-//! afterwards.
+//! afterwards. Until it begins threads can share it as a [`PlannedSlide`], to redirect what leads to its words.
 #![tactic(auto)]
 
 mod collection;
@@ -13,6 +13,7 @@ mod lending;
 mod lent_collection;
 mod lent_slide;
 mod part;
+mod planned_slide;
 mod reading;
 mod settings;
 mod slots;
@@ -23,6 +24,7 @@ pub use lending::image_of_lent;
 pub use lent_collection::{begin_lent, collect_lent_words, end_lent_words, suits};
 pub use lent_slide::{SlideBack, begin_slide, end_slide};
 pub use part::{Origin, Part, boxed_parts};
+pub use planned_slide::PlannedSlide;
 pub use reading::image_of_heap;
 pub use settings::HeapSettings;
 pub use slots::{Places, SlotCoding, redirect_slots};

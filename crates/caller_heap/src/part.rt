@@ -1,19 +1,21 @@
 //! A worker's part in a collection, as its host keeps it.
-ghost use Rattle.std.specs.Prelude.{◌≡◌, ◌⊎◌, ◌≤◌, ◌||◌, ℕ, List, [], All, Option, Some, IfOk, IfErr, IfSome, IfNone, is_some, vec_len, map, option_map};
+ghost use Rattle.std.specs.Prelude.{◌≡◌, ◌⊎◌, ◌≤◌, ◌||◌, ℕ, List, [], All, Option, Some, None, IfOk, IfErr, IfSome, IfNone, is_some, vec_len, map, option_map};
 ghost use Rattle.std.specs.Vec.{vec_capacity};
 ghost use Rattle.object_heap.specs.HeapImage.{HeapImage};
 ghost use Rattle.image_streams.specs.declared.fault.Fault.TheVariants.{Memory, Workers};
 ghost use Rattle.collector.specs.Collections.{IfKept, IfLost};
 ghost use Rattle.collector.specs.Sessions.{image_of, held_of};
 ghost use Rattle.collector.specs.NewPlaces.{IsNewPlace};
+ghost use Rattle.collector.specs.Slides.{IsNextObject};
 ghost use Rattle.caller_heap.specs.Parts.{IsPartOf};
 ghost use Rattle.caller_heap.specs.Slides.{planned_in};
 ghost use Rattle.caller_heap.specs.Slots.{redirected_slot};
 ghost use Rattle.caller_heap.specs.declared.part.Origin.{Origin};
 
 use crate::lent_collection::suits;
+use crate::planned_slide::PlannedSlide;
 use crate::slots::{Places, SlotCoding, redirect_slots};
-use collector::{NewPlace, Progress, Refusal, Session, Share, Slide};
+use collector::{NewPlace, Progress, Refusal, Session, Share};
 use heap_image::{Fault, Image};
 use scheduler::MAX_WORKERS;
 use std::alloc::{AllocError, Global};
@@ -37,7 +39,7 @@ pub enum Origin {
 pub struct Part {
     /// `None` of a planned slide, or while the part waits for its share.
     pub share: Option<Share>,
-    pub slide: Option<Slide>,
+    pub slide: Option<PlannedSlide>,
     pub origin: Origin,
 }
 
@@ -76,6 +78,17 @@ impl Part {
         }
     }
 
+    /// The first address from `from` on at which an object of the planned slide begins. Without a planned slide there is none.
+    pub fn next_object(&self, from: u64) -> Option<u64>
+        ensures slide { IfSome (planned_in self.now.share self.now.slide) (λ image. IsNextObject image from result) }
+        ensures none { IfNone (planned_in self.now.share self.now.slide) (result ≡ None) }
+    {
+        match (&self.share, &self.slide) {
+            (None, Some(planned)) => planned.slide().next_object(from),
+            _ => None,
+        }
+    }
+
     /// Redirects slots, as [`redirect_slots`](crate::redirect_slots). Returns whether there is a share or a planned slide.
     pub fn redirect(&self, coding: SlotCoding, slots: &mut [u64]) -> bool
         ensures share { IfSome self.now.share (λ share. slots.new ≡ map (redirected_slot (image_of share) coding) slots.old) }
@@ -99,7 +112,7 @@ impl Part {
     {
         match (&self.share, &self.slide) {
             (Some(share), _) => Some(Places::of_share(share)),
-            (None, Some(slide)) => Some(Places::of_slide(slide)),
+            (None, Some(planned)) => Some(Places::of_slide(planned.slide())),
             (None, None) => None,
         }
     }

@@ -14,6 +14,8 @@ use summary::laws::plan_laws;
 pub struct SlotCoding {
     /// What leads to address 0.
     pub base: u64,
+    /// How many words slots lead to: those at addresses below it. What leads farther stays.
+    pub word_count: u64,
     /// What takes the place of what leads to a word that no live object has.
     pub dead: u64,
     /// The logarithm, to base 2, of the distance from one address to the next: 3 for a machine's pointers. Only the low 6
@@ -94,7 +96,7 @@ fn redirected(places: &Places<'_>, coding: SlotCoding, slot: u64) -> u64
     let unit = coding.unit % 64;
     let distance = slot - coding.base;
     let address = distance >> unit;
-    if address << unit != distance {
+    if address << unit != distance || address >= coding.word_count {
         return slot;
     }
     match places.new_place(address) {

@@ -8,6 +8,7 @@ ghost use Rattle.claim_board.specs.Boards.{ArePasses, AllBare};
 ghost use Rattle.claim_board.specs.RegionBoards.{identity, original_words};
 ghost use Rattle.fill.specs.KeptImages.{KeepsOpaque};
 ghost use Rattle.collector.specs.Sessions.{heap_of, image_of, held_of};
+ghost use Rattle.collector.specs.Slides.{IsNextObject};
 
 use crate::outcome::Figures;
 use crate::session::Session;
@@ -85,6 +86,13 @@ impl Slide {
         ensures { IsNewPlace self.now address result }
     {
         place_in(&self.survey, address)
+    }
+
+    /// The first address from `from` on at which an object begins.
+    pub fn next_object(&self, from: u64) -> Option<u64>
+        ensures { IsNextObject self.now from result }
+    {
+        self.survey.marks().next_begin(from)
     }
 
     /// What the slide will do.

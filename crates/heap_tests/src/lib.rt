@@ -1,4 +1,5 @@
-//! Tests of the public calls of `raw_region`, `thread_row`, `read_shares`, `box_row`, `heap_image` and `mark_bitmap`.
+//! Tests of the public calls of `raw_region`, `thread_row`, `read_shares`, `box_row`, `object_coding`, `coded_marking`,
+//! `heap_image` and `mark_bitmap`.
 //!
 //! They are in a crate of their own so that checking them doesn't prove those crates again.
 #![tactic(auto)]
@@ -11,6 +12,10 @@ mod bits;
 mod boxes;
 #[cfg(test)]
 mod checks;
+#[cfg(test)]
+mod coded_marks;
+#[cfg(test)]
+mod codings;
 #[cfg(test)]
 mod images;
 #[cfg(test)]

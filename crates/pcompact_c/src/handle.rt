@@ -44,6 +44,7 @@ unsafe impl Send for PcompactHandle {}
 
 impl PcompactHandle {
     ghost use Rattle.object_heap.specs.HeapImage.{HeapImage};
+    ghost use Rattle.collector.specs.Slides.{IsNextObject};
     ghost use Rattle.caller_heap.specs.Slots.{redirected_slot};
     ghost use Rattle.pcompact_c.specs.Handles.{image_in, origin_in};
     ghost use Rattle.pcompact_c.specs.Places.{IsNewAddress};
@@ -196,6 +197,18 @@ impl PcompactHandle {
             NewPlace::At(to) => Some(to),
             NewPlace::Outside | NewPlace::NotLive => None,
         }
+    }
+
+    /// The first address from `from` on at which an object of the planned slide begins. `None` also if nothing is planned.
+    pub(crate) fn next_object(&mut self, alloc: Global, from: u64) -> Option<u64>
+        ensures part { self.new.2 ≡ self.old.2 }
+        ensures next { (image : HeapImage) → plan_in self.old ≡ Some image → IsNextObject image from result }
+        ensures none { plan_in self.old ≡ None → result ≡ None }
+    {
+        let part = self.leave(alloc)?;
+        let next = part.next_object(from);
+        self.enter(part);
+        next
     }
 
     /// Redirects slots to where the collection takes what they lead to. Returns whether the handle is held.

@@ -3,7 +3,7 @@ ghost use Rattle.std.specs.Prelude.{◌≡◌, ◌↔◌, ◌⊎◌, Some, None,
 ghost use Rattle.object_heap.specs.HeapImage.{HeapImage};
 ghost use Rattle.caller_heap.specs.Slots.{redirected_slot};
 ghost use Rattle.pcompact_c.specs.Handles.{image_in};
-ghost use Rattle.pcompact_c.specs.Places.{new_address_in};
+ghost use Rattle.pcompact_c.specs.Places.{IsNextAddress, new_address_in};
 ghost use Rattle.pcompact_c.specs.Slides.{plan_in};
 
 use crate::handle::PcompactHandle;
@@ -32,6 +32,20 @@ pub extern "C" fn pcompact_new_address(
 {
     match handle.new_address(alloc, address) {
         Some(to) => to,
+        None => NOWHERE,
+    }
+}
+
+/// The first address from `from` on at which an object begins, by the handle of a planned slide: 2^64 - 1 if there is none, or the
+/// handle has no plan.
+#[unsafe(no_mangle)]
+pub extern "C" fn pcompact_next_object(alloc: Global, handle: &mut PcompactHandle, from: u64) -> u64
+    ensures part { handle.new.2 ≡ handle.old.2 }
+    ensures next { (image : HeapImage) → plan_in handle.old ≡ Some image → IsNextAddress image from result }
+    ensures not_planned { plan_in handle.old ≡ None → result ≡ 18446744073709551615 }
+{
+    match handle.next_object(alloc, from) {
+        Some(address) => address,
         None => NOWHERE,
     }
 }

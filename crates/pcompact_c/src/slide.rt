@@ -8,7 +8,7 @@ ghost use Rattle.collector.specs.Collections.{figures_of};
 ghost use Rattle.collector.specs.Sessions.{image_of, held_of};
 ghost use Rattle.collector.specs.declared.session.share.Share.{Share};
 ghost use Rattle.caller_heap.specs.Lent.{AreBack, IsGone, words_in};
-ghost use Rattle.caller_heap.specs.Slides.{HoldSlid, IsWhyNotSlid};
+ghost use Rattle.caller_heap.specs.Slides.{HoldSlid, IsWhyNotSlid, planned_in};
 ghost use Rattle.caller_heap.specs.declared.part.Origin.TheVariants.{Slid};
 ghost use Rattle.pcompact_c.specs.Answers.{IsSummaryOf};
 ghost use Rattle.pcompact_c.specs.Faults.{IsFaultFor};
@@ -20,7 +20,7 @@ use crate::begin::{are_ready, hand_out};
 use crate::end::{are_all_of_one, are_gone, room_for, take_shares};
 use crate::fault::PcompactFault;
 use crate::handle::PcompactHandle;
-use caller_heap::{HeapSettings, Origin, Part, SlideBack, begin_slide, end_slide};
+use caller_heap::{HeapSettings, Origin, Part, PlannedSlide, SlideBack, begin_slide, end_slide};
 use collector::{Figures, Share, Slide};
 use heap_image::Fault;
 use mark_bitmap::{OpaqueHeap, OpaqueObjects};
@@ -93,13 +93,64 @@ fn planned(
     let slide = Slide::plan(alloc, objects)?;
     let part = Part {
         share: None,
-        slide: Some(slide),
+        slide: Some(PlannedSlide::new(slide)),
         origin: Origin::Planned,
     };
     Ok(Box::new(alloc, part)?)
 }
 
-/// Forgets what a handle has planned, if it has. Returns 0, or 12 if the handle has a worker's part, and then keeps it.
+/// Gives a handle that isn't held the slide that another has planned, which keeps it: so several threads can ask where words will
+/// go, each by a handle of its own. The slide can't begin before all others have forgotten it. Returns the fault, 12 if nothing is
+/// planned or the other handle is held, or 11 if memory runs out; after one both handles are as they were.
+#[unsafe(no_mangle)]
+pub extern "C" fn pcompact_share_plan(
+    alloc: Global,
+    plan: &mut PcompactHandle,
+    other: &mut PcompactHandle,
+) -> PcompactFault
+    ensures shared { result.number ≡ 0 → (image : HeapImage) × (plan_in plan.old ≡ Some image) × (plan_in other.new ≡ Some image) }
+    ensures same { plan.new.2 ≡ plan.old.2 }
+    ensures kept { 0 < result.number → other.new ≡ other.old }
+    ensures fault { 0 < result.number → IsFaultFor (λ fault. (fault ≡ Workers) ⊎ (fault ≡ Memory)) result }
+{
+    if other.is_held() {
+        return PcompactFault::of(Fault::Workers);
+    }
+    let Some(mut part) = plan.leave(alloc) else {
+        return PcompactFault::of(Fault::Workers);
+    };
+    let shared = share_plan(alloc, &mut part);
+    plan.enter(part);
+    match shared {
+        Ok(part) => {
+            other.enter(part);
+            PcompactFault::NONE
+        }
+        Err(fault) => PcompactFault::of(fault),
+    }
+}
+
+/// Another part with the planned slide of this one, which keeps it.
+fn share_plan(alloc: Global, part: &mut Box<Part, Global>) -> Result<Box<Part, Global>, Fault>
+    ensures slide { IfOk result (λ other. (image : HeapImage) × (planned_in part.old.value.share part.old.value.slide ≡ Some image)
+        × (planned_in other.value.share other.value.slide ≡ Some image)) }
+    ensures same { part.new.value ≡ part.old.value }
+    ensures fault { IfErr result (λ fault. (fault ≡ Workers) ⊎ (fault ≡ Memory)) }
+{
+    let Some(planned) = take_planned(part) else {
+        return Err(Fault::Workers);
+    };
+    let (planned, other) = planned.share(alloc);
+    put_planned(part, planned);
+    let other = Part {
+        share: None,
+        slide: Some(other?),
+        origin: Origin::Planned,
+    };
+    Ok(Box::new(alloc, other)?)
+}
+
+/// Forgets the planned slide of a handle, if it has one. Returns 0, or 12 if the handle has a worker's part, and then keeps it.
 #[unsafe(no_mangle)]
 pub extern "C" fn pcompact_forget(alloc: Global, plan: &mut PcompactHandle) -> u32
     ensures gone { result ≡ 0 → plan.new.2 ≡ None }
@@ -119,7 +170,7 @@ pub extern "C" fn pcompact_forget(alloc: Global, plan: &mut PcompactHandle) -> u
 /// workers slide the words where they lie, a region each from address 0 up. None of them is held then, and the end must name the
 /// same place. After a fault all is as it was.
 ///
-/// The fault is 12 if nothing is planned, there aren't 1 to 64 handles or one is held, 4 if the words aren't as many regions as the
+/// The fault is 12 if nothing is planned or another handle shares the plan, there aren't 1 to 64 handles or one is held, 4 if the words aren't as many regions as the
 /// plan has, or some aren't held or are more or fewer than a region has, or 11 if memory runs out. No contract excludes fault 12
 /// for another reason, as none follows whose memory a region has: after it nothing is promised of the words.
 #[unsafe(no_mangle)]
@@ -155,16 +206,32 @@ pub extern "C" fn pcompact_begin_slide_at(
             PcompactFault::NONE
         }
         Err(SlideBack { slide, fault }) => {
-            put_slide(&mut part, slide);
+            put_planned(&mut part, PlannedSlide::new(slide));
             plan.enter(part);
             PcompactFault::of(fault)
         }
     }
 }
 
-/// The planned slide of a part that has no share, which has none then either.
+/// The planned slide of a part that has no share, which has none then either. `None` also if it is shared.
 fn take_slide(part: &mut Box<Part, Global>) -> Option<Slide>
     ensures slide { IfSome result (λ slide. part.old.value.slide ≡ Some slide) }
+    ensures share { IfSome result (λ _. part.old.value.share ≡ None) }
+    ensures rest { IfSome result (λ _. part.new.value ≡ record part.old.value { slide = None }) }
+    ensures kept { IfNone result (part.new.value ≡ part.old.value) }
+{
+    match take_planned(part)?.into_slide() {
+        Ok(slide) => Some(slide),
+        Err(planned) => {
+            put_planned(part, planned);
+            None
+        }
+    }
+}
+
+/// What a part that has no share has planned, which has nothing planned then either.
+fn take_planned(part: &mut Box<Part, Global>) -> Option<PlannedSlide>
+    ensures slide { IfSome result (λ planned. part.old.value.slide ≡ Some planned) }
     ensures share { IfSome result (λ _. part.old.value.share ≡ None) }
     ensures rest { IfSome result (λ _. part.new.value ≡ record part.old.value { slide = None }) }
     ensures kept { IfNone result (part.new.value ≡ part.old.value) }
@@ -176,10 +243,10 @@ fn take_slide(part: &mut Box<Part, Global>) -> Option<Slide>
 }
 
 /// Gives a part without one a planned slide.
-fn put_slide(part: &mut Box<Part, Global>, slide: Slide)
-    ensures { part.new.value ≡ record part.old.value { slide = Some slide } }
+fn put_planned(part: &mut Box<Part, Global>, planned: PlannedSlide)
+    ensures { part.new.value ≡ record part.old.value { slide = Some planned } }
 {
-    drop(mem::replace(&mut part.slide, Some(slide)));
+    drop(mem::replace(&mut part.slide, Some(planned)));
 }
 
 /// Ends a slide by several threads: fills what is left to fill, and gives each region back in its place. `handles` are all those

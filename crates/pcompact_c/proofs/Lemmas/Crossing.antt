@@ -47,6 +47,8 @@ use Rattle.claim_board.specs.contracts.regions.holding.Holding as Holding
 use Rattle.claim_board.specs.contracts.rule.view.View as View
 use Rattle.claim_board.proofs.regions.holding.Holding.TheSendSync as holding
 use Rattle.atomic_table.proofs.shared.Seat.TheSendSync as seats
+use Rattle.caller_heap.specs.contracts.planned_slide.Owner as Owner
+use Rattle.caller_heap.specs.contracts.planned_slide.PlannedSlide as PlannedSlide
 use Rattle.caller_heap.specs.contracts.part.Part as Part
 use Rattle.caller_heap.proofs.part.Origin.TheSendSync as origin
 
@@ -175,11 +177,20 @@ share_send =
     let all : AllSend (declared.fields T) = (search (crosses, sendable, Read-send, session_sync) depth 60 fits 20000, (search (crosses, sendable, lead_send) depth 60 fits 20000, (worker_send, (search sendable, (heap.Arc-send ReturnedStakes.the_row returned_send returned_sync, tt))))) in
     struct_send (declared.shape T) all
 
--- a slide that is planned
+-- a slide that is planned, of which several may be
 slide_send : IsSend Slide.the_row
 slide_send = search (crosses, sendable, survey_send) depth 60 fits 20000
+
+slide_sync : IsSync Slide.the_row
+slide_sync = search (crosses, sendable, survey_sync) depth 60 fits 20000
+
+owner_send : IsSend Owner.the_row
+owner_send = search (crosses, sendable, slide_send, slide_sync) depth 60 fits 20000
+
+planned_send : IsSend PlannedSlide.the_row
+planned_send = search (crosses, sendable, owner_send) depth 60 fits 20000
 
 pub part_send : IsSend Part.the_row
 part_send =
     let T = Part.the_type in
-    recorded_send (Struct (declared.shape T)) T.D T.to T.to_one (struct_send (declared.shape T) (search (crosses, sendable, share_send) depth 60 fits 20000, (search (crosses, sendable, slide_send) depth 60 fits 20000, (origin.the_field_send, tt))))
+    recorded_send (Struct (declared.shape T)) T.D T.to T.to_one (struct_send (declared.shape T) (search (crosses, sendable, share_send) depth 60 fits 20000, (search (crosses, sendable, planned_send) depth 60 fits 20000, (origin.the_field_send, tt))))

@@ -46,9 +46,13 @@ returns-in-At c =
     let all : a * s < 18446744073709551616 = omega arith in
     let shifted = mod-eq_of_lt all in
     let even : a * s ≡ d = let tested = c.if-address-unit.false in omega arith in
+    let few : a < c.args.coding.word_count = let tested = c.if-address-unit.false in omega arith in
+    let whole_step : eqb (d % s) 0 ≡ true = eq-eqb (d % s) 0 (subst (λ (n : ℕ). n % s ≡ 0) even (mul-mod_left a s)) in
     let led : leads image c.args.coding slot ≡ true =
-    and_from (leb base slot && eqb (d % s) 0) (ltb a (heap_words image))
-    (and_from (leb base slot) (eqb (d % s) 0) (le-leb base slot (omega arith)) (eq-eqb (d % s) 0 (subst (λ (n : ℕ). n % s ≡ 0) even (mul-mod_left a s))))
+    and_from (leb base slot && eqb (d % s) 0 && ltb a c.args.coding.word_count) (ltb a (heap_words image))
+    (and_from (leb base slot && eqb (d % s) 0) (ltb a c.args.coding.word_count)
+    (and_from (leb base slot) (eqb (d % s) 0) (le-leb base slot (omega arith)) whole_step)
+    (lt-ltb a c.args.coding.word_count few))
     (lt-ltb a (heap_words image) at.0) in
     let moved : base + c.in-At.to * s % 18446744073709551616 ≡ base + s * slid image a = ap (λ n. base + n) (same ∙ turned ∙ ap (λ n. s * n) at.2) in
     moved

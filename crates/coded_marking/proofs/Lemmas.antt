@@ -1,0 +1,9 @@
+pub mod Counts
+pub mod Growth
+pub mod References
+pub mod Underway
+pub mod Batches
+pub mod Drained
+pub mod Words
+pub mod Listed
+pub mod Reached

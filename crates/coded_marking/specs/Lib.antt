@@ -1,0 +1,4 @@
+pub mod CodedHeap
+pub mod Tracing
+pub mod Marking
+pub mod ListError

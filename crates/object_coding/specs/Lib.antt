@@ -1,0 +1,3 @@
+pub mod ObjectLayout
+pub mod LayoutFault
+pub mod ObjectCoding
