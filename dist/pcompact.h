@@ -1,9 +1,10 @@
 /* The C interface of pcompact, a sliding full collection whose program is proved.
  *
  * Link libpcompact.a. It takes memory by malloc, unless the program defines the three functions of heap.c: any allocator
- * that aligns to 16 bytes and that several threads may call can stand in its place. Each call is proved but pcompact_cut and
- * pcompact_is_live, those in place, those of several threads over lent words, and slides: these are a few lines of C, here, in
- * in_place.c, in lent.c, in slide.c and in segments.c, around calls that are proved, and are only tested.
+ * that aligns to 16 bytes and that several threads may call can stand in its place. Each call is proved but pcompact_cut,
+ * pcompact_is_live and pcompact_redirect_each, those in place, those of several threads over lent words, and those of slides and
+ * segments: these are a few lines of C, here, in in_place.c, in lent.c, in slide.c and in segments.c, around calls that are proved,
+ * and are only tested.
  *
  * No fault loses a heap: this is proved, but for words that are lent or slid, of which it is only tested. What a caller mixes up
  * of a collection or slide by several threads is fault 12.

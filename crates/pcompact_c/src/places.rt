@@ -17,8 +17,8 @@ const REDIRECTED: u32 = 0;
 /// The handle isn't held.
 const NOT_HELD: u32 = 5;
 
-/// Where the collection of a handle, or the slide that it has planned, takes the word at this address, the first of its object or not: its new address, or
-/// 2^64 - 1 if no live object has such a word, or the handle isn't held.
+/// Where the collection of a handle, or the slide that it has planned, takes the word at this address, the first of its object or
+/// not: its new address, or 2^64 - 1 if no live object has such a word, or the handle isn't held.
 #[unsafe(no_mangle)]
 pub extern "C" fn pcompact_new_address(
     alloc: Global,

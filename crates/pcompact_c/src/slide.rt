@@ -170,9 +170,10 @@ pub extern "C" fn pcompact_forget(alloc: Global, plan: &mut PcompactHandle) -> u
 /// workers slide the words where they lie, a region each from address 0 up. None of them is held then, and the end must name the
 /// same place. After a fault all is as it was.
 ///
-/// The fault is 12 if nothing is planned or another handle shares the plan, there aren't 1 to 64 handles or one is held, 4 if the words aren't as many regions as the
-/// plan has, or some aren't held or are more or fewer than a region has, or 11 if memory runs out. No contract excludes fault 12
-/// for another reason, as none follows whose memory a region has: after it nothing is promised of the words.
+/// The fault is 12 if nothing is planned or another handle shares the plan, there aren't 1 to 64 handles or one is held, 4 if the
+/// words aren't as many regions as the plan has, or some aren't held or are more or fewer than a region has, or 11 if memory runs
+/// out. No contract excludes fault 12 for another reason, as none follows whose memory a region has: after it nothing is promised
+/// of the words.
 #[unsafe(no_mangle)]
 pub extern "C" fn pcompact_begin_slide_at(
     alloc: Global,
