@@ -29,6 +29,9 @@ typedef struct opaque_heap {
 pcompact_fault pcompact_plan_at(const uint64_t *live, size_t live_count, const uint32_t *sizes, size_t size_count,
                                 opaque_heap heap, pcompact_handle *plan);
 
+pcompact_fault pcompact_plan_marked_at(pcompact_handle *marking, const uint64_t *words, size_t word_count,
+                                       const pcompact_layout *layout, pcompact_settings settings);
+
 pcompact_fault pcompact_begin_slide_at(pcompact_handle *plan, pcompact_words *words, size_t region_count, pcompact_handle *handles,
                                        size_t worker_count, uint64_t place);
 

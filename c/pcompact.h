@@ -2,7 +2,7 @@
  *
  * Link libpcompact.a. It takes memory by malloc, unless the program defines the three functions of heap.c: any allocator
  * that aligns to 16 bytes and that several threads may call can stand in its place. Each call is proved but pcompact_cut,
- * pcompact_is_live and pcompact_redirect_each, those in place, those of several threads over lent words, and those of slides and
+ * pcompact_is_live, pcompact_redirect_each, pcompact_mark_each and pcompact_slots_by, those in place, those of several threads over lent words, and those of slides and
  * segments: these are a few lines of C, here, in in_place.c, in lent.c, in slide.c and in segments.c, around calls that are proved,
  * and are only tested.
  *
@@ -26,7 +26,7 @@ extern "C" {
 /* A fault with its particulars. `number` is 0 if there is none. */
 typedef struct pcompact_fault {
     uint32_t number; /* docs/FORMATS.md lists the faults */
-    uint32_t field;  /* of fault 9, otherwise 0 */
+    uint32_t field;  /* of faults 9 and 18, otherwise 0 */
     uint64_t place;  /* the index of faults 6 and 17, the address of faults 7 to 9, otherwise 0 */
 } pcompact_fault;
 
@@ -131,7 +131,7 @@ uint32_t pcompact_collect_lent(pcompact_words *words, size_t region_count, uint6
 uint32_t pcompact_collect_lent_rooted(pcompact_words *words, size_t region_count, uint64_t *roots, size_t root_count,
                                       pcompact_settings settings, pcompact_answer *answer);
 
-/* One worker's part in a collection or slide by several threads, or a slide's plan, or none. It begins as all zeros; afterwards
+/* One worker's part in a collection or slide by several threads, or a slide's plan, or a marking before it, or none. It begins as all zeros; afterwards
  * only the library writes its fields, and nobody copies one that is held or touches what it leads to. One call at a time uses a
  * handle. It may go to another thread by a start or join of a thread, a lock, or an atomic variable. */
 typedef struct pcompact_handle {
@@ -280,8 +280,8 @@ typedef struct pcompact_slide {
  * Returns the fault: 12 if there is a plan already or the slide has begun, 3 or 4 for the settings and the number of words, which
  * isn't 0, or that of the first object with which something is wrong: 6 with its index out of order or outside of the words, or
  * with its address 7 without a word or beyond the last word, 8 over the object before it. 11 if memory runs out. After a fault all
- * is as it was. Takes the memory of a copy of both lists until it returns, and about 4 bits for each word until the slide ends. No
- * pointer is null, also with a count of 0, and nobody writes there meanwhile. */
+ * is as it was. Takes about 4 bits for each word until the slide ends. No pointer is null, also with a count of 0, and nobody writes
+ * there meanwhile. */
 pcompact_fault pcompact_plan(uint64_t *words, size_t word_count, const uint64_t *live, const uint32_t *sizes, size_t live_count,
                              pcompact_settings settings, pcompact_slide *slide);
 
@@ -290,7 +290,7 @@ pcompact_fault pcompact_plan(uint64_t *words, size_t word_count, const uint64_t 
  * fault all is as it was. No pointer is null. */
 pcompact_fault pcompact_share_plan(pcompact_handle *plan, pcompact_handle *other);
 
-/* Forgets the plan of a handle, if it has one. Returns 0, or 12 for a worker's part, which it keeps. */
+/* Forgets the plan or the marking of a handle, if it has one. Returns 0, or 12 for a worker's part, which it keeps. */
 uint32_t pcompact_forget(pcompact_handle *plan);
 
 /* Begins the slide that is planned, by 1 to 64 workers, and gives each of these handles a worker's part, for pcompact_work or
@@ -309,8 +309,102 @@ pcompact_fault pcompact_begin_slide(pcompact_slide *slide, pcompact_handle *hand
 uint32_t pcompact_end_slide(pcompact_slide *slide, pcompact_handle *handles, size_t worker_count, bool clears,
                             pcompact_answer *answer);
 
-/* Forgets what is planned, if it is, and frees its memory. Returns 0, or 12 if the slide has begun, which then goes on. */
+/* Forgets what is planned or marked, if it is, and frees its memory. Returns 0, or 12 if the slide has begun, which then goes on. */
 uint32_t pcompact_forget_slide(pcompact_slide *slide);
+
+/* How a host lays out its objects, in numbers, so that the library can mark them and redirect their references.
+ *
+ * An object's first word is its header, which has three fields, each by its lowest bit and its number of bits: a size, a type, and
+ * a number of references. The size is in units, of which a word has 2 ^ `size_unit`: an object has the whole words of
+ * size + `size_more` units, header included. Its references follow the header, and `modes` says of each type how many there are: 0
+ * none, 1 all words, 2 as many as the header says. The word `base` + 2 ^ `unit` * a leads to the object at address a; a word that
+ * is none of these for an address of the heap leads nowhere, and is never changed.
+ *
+ * The last two are for the headers of fillers. What is wrong with a layout is fault 18, whose `field` says which rule it breaks:
+ *   1 the size is a field of a header: both numbers are below 64, and their sum is at most 64
+ *   2 it can count the units of 2147483648 words
+ *   3 the type is a field of a header, of at most 8 bits
+ *   4 the number of references is a field of a header
+ *   5 no mode is above 2
+ *   6 `unit` is below 64, and `base` + 2 ^ `unit` * (the number of words) at most 2 ^ 64
+ *   7 `filler_tag` is 0 where the size is
+ *   8 `filler_less` is at most `size_more` and at most 2 ^ `size_unit`, and `size_more` less than both together */
+typedef struct pcompact_layout {
+    uint8_t size_shift, size_bits, size_unit;
+    uint8_t type_shift, type_bits;
+    uint8_t first_shift, first_bits; /* the number of references, for types of mode 2 */
+    uint8_t unit;
+    uint64_t size_more;
+    uint64_t base;
+    uint64_t filler_tag;  /* the header of a filler, with size 0 */
+    uint64_t filler_less; /* how many units the size of a filler is below those of its words */
+    uint8_t modes[256];
+} pcompact_layout;
+
+/* The layout of OCaml, 4.14 or later, and of Scheme 48, for a heap whose first word is at this machine address. */
+pcompact_layout pcompact_ocaml_layout(uintptr_t start);
+pcompact_layout pcompact_scheme48_layout(uintptr_t start);
+
+/* What is wrong with a layout for a heap of so many words: fault 18, 4 if there are more than 68719476736, or 0. */
+pcompact_fault pcompact_check_layout(const pcompact_layout *layout, uint64_t word_count);
+
+/* Begins to mark the objects of a heap with so many words, by a handle that isn't held, such as a slide's plan. Returns the fault, 12
+ * if the handle is held, 4 if the words are too many, or 11 if memory runs out: here it takes all that marking takes, 2 bits for each
+ * word and 128 KiB. After a fault all is as it was. */
+pcompact_fault pcompact_begin_marking(uint64_t word_count, pcompact_handle *marking);
+
+/* Marks the objects that these roots reach, words in the layout's coding, and what was marked stays marked: so roots can come in
+ * batches, and more of them once the host knows what is dead, such as objects with finalisers. Reads nothing of the heap but headers
+ * and references of reached objects. Takes no memory. Returns the fault: 12 if the handle has no marking, 4 if it is of another
+ * number of words, or 18, and then nothing more is marked; or 7 with the address of an object without a sound header, and then some
+ * of what is reached isn't. No pointer is null, also with a count of 0, and nobody writes there meanwhile. */
+pcompact_fault pcompact_mark(pcompact_handle *marking, const uint64_t *words, size_t word_count, const pcompact_layout *layout,
+                             const uint64_t *roots, size_t root_count);
+
+/* The same of roots that lie apart, each of which a pointer leads to. */
+static inline pcompact_fault pcompact_mark_each(pcompact_handle *marking, const uint64_t *words, size_t word_count,
+                                                const pcompact_layout *layout, uint64_t *const *roots, size_t root_count) {
+    uint64_t batch[64] = {0};
+    size_t count = 0;
+    for (size_t i = 0; i < root_count; i++) {
+        batch[count++] = *roots[i];
+        if (count < 64) continue;
+        pcompact_fault fault = pcompact_mark(marking, words, word_count, layout, batch, count);
+        if (fault.number != 0) return fault;
+        count = 0;
+    }
+    return pcompact_mark(marking, words, word_count, layout, batch, count);
+}
+
+/* Whether the object at this address is marked. None is where the handle has no marking. Takes no memory. */
+bool pcompact_is_reached(pcompact_handle *marking, uint64_t address);
+
+/* Plans the slide of the objects that the slide's plan has marked, in the heap with these words. From then on the plan answers as
+ * after pcompact_plan, and the marking is gone. Returns the fault: 12 if there is no marking, 18, 7 for an object of 2 ^ 32 words or
+ * more, or one of pcompact_plan. After a fault all is as it was. Takes 12 bytes for each object until it returns, and about 4 bits
+ * for each word until the slide ends. */
+pcompact_fault pcompact_plan_marked(uint64_t *words, size_t word_count, const pcompact_layout *layout, pcompact_settings settings,
+                                    pcompact_slide *slide);
+
+/* Which words of a heap a host hands over. */
+typedef struct pcompact_objects {
+    uint64_t first;      /* the address of the first of them */
+    uint64_t word_count; /* how many words the whole heap has */
+    uint64_t dead;       /* what takes the place of a reference that leads to a word that no live object has */
+} pcompact_objects;
+
+/* Redirects the references of the planned objects that begin in these words, where they lie: each that leads to a word of the heap
+ * leads to where the slide takes the word, or becomes `dead`. All else stays. To be called once for each object, before the slide
+ * begins; several threads may do so at once by shared plans, each with the words from one object's address up to another's. Returns
+ * the fault, 12 if nothing is planned, 4 or 18, and then all stay. Takes no memory. */
+pcompact_fault pcompact_redirect_objects(pcompact_handle *plan, uint64_t *words, size_t word_count, const pcompact_layout *layout,
+                                         pcompact_objects objects);
+
+/* How slots lead to a heap of so many words where they are coded as a layout's references: for pcompact_redirect, of roots. */
+static inline pcompact_slot_coding pcompact_slots_by(const pcompact_layout *layout, uint64_t word_count, uint64_t dead) {
+    pcompact_slot_coding coding = {layout->base, word_count, dead, layout->unit};
+    return coding;
+}
 
 /* A heap in segments that no object crosses, such as chunks that lie apart. Each segment is a slide, by the same workers: objects
  * stay in theirs. The host fills the fields, and keeps slides and handles, which begin as all zeros. */

@@ -16,7 +16,8 @@ static pcompact_handle *handle_of(const pcompact_segments *heap, size_t segment,
 /* Whether a slot leads to a word of this segment. */
 static bool leads_into(const pcompact_segments *heap, size_t segment, uint64_t slot) {
     const pcompact_slide *slide = &heap->slides[segment];
-    return slot - heap->tag - (uintptr_t)slide->words < slide->word_count * sizeof(uint64_t);
+    uint64_t distance = slot - heap->tag - (uintptr_t)slide->words;
+    return distance % sizeof(uint64_t) == 0 && distance < slide->word_count * sizeof(uint64_t);
 }
 
 /* The last segment that begins at or below what a slot leads to, or the first. */
@@ -85,23 +86,35 @@ pcompact_fault pcompact_share_segments(const pcompact_segments *heap) {
     return fault;
 }
 
-/* Whether a slot leads to a word of some segment, which is the recent one then. */
-static bool find_recent(pcompact_segments *heap, uint64_t slot) {
-    if ((slot - heap->tag) % sizeof(uint64_t) != 0 || heap->segment_count == 0) return false;
-    if (leads_into(heap, heap->recent, slot)) return true;
-    size_t found = find_segment(heap, slot);
-    if (!leads_into(heap, found, slot)) return false;
-    heap->recent = found;
-    return true;
+/* Whether a slot leads to a word of some segment. */
+static bool leads_to_some(const pcompact_segments *heap, uint64_t slot) {
+    return (slot - heap->tag) % sizeof(uint64_t) == 0 && leads_into(heap, find_segment(heap, slot), slot);
+}
+
+/* How many of these slots, from the first on, lead to the recent segment or to none. */
+static size_t count_recent(const pcompact_segments *heap, const uint64_t *slots, size_t slot_count) {
+    size_t count = 0;
+    while (count < slot_count && (leads_into(heap, heap->recent, slots[count]) || !leads_to_some(heap, slots[count]))) count++;
+    return count;
+}
+
+/* Redirects slots that lead to the recent segment. */
+static uint32_t redirect_recent(const pcompact_segments *heap, size_t worker, uint64_t *slots, size_t slot_count) {
+    const pcompact_slide *slide = &heap->slides[heap->recent];
+    pcompact_slot_coding coding = {(uintptr_t)slide->words + heap->tag, slide->word_count, heap->dead, 3};
+    return pcompact_redirect(handle_of(heap, heap->recent, worker), slots, slot_count, coding);
 }
 
 uint32_t pcompact_redirect_segments(pcompact_segments *heap, size_t worker, uint64_t *slots, size_t slot_count) {
     uint32_t how = PCOMPACT_SETTLED;
-    for (size_t i = 0; i < slot_count; i++) {
-        if (!find_recent(heap, slots[i])) continue;
-        const pcompact_slide *slide = &heap->slides[heap->recent];
-        pcompact_slot_coding coding = {(uintptr_t)slide->words + heap->tag, slide->word_count, heap->dead, 3};
-        how |= pcompact_redirect(handle_of(heap, heap->recent, worker), &slots[i], 1, coding);
+    for (size_t from = 0, count; from < slot_count && heap->segment_count > 0; from += count) {
+        count = 1;
+        if (!leads_into(heap, heap->recent, slots[from])) {
+            if (!leads_to_some(heap, slots[from])) continue;
+            heap->recent = find_segment(heap, slots[from]);
+        }
+        count += count_recent(heap, &slots[from + 1], slot_count - from - 1);
+        how |= redirect_recent(heap, worker, &slots[from], count);
     }
     return how;
 }

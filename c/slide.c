@@ -14,16 +14,27 @@ static pcompact_fault fault_of(uint32_t number) {
     return (pcompact_fault){.number = number};
 }
 
+/* Keeps where the words of a planned slide are. */
+static void keep_words(pcompact_slide *slide, uint64_t *words, size_t word_count, uint32_t region_log) {
+    slide->words = words;
+    slide->word_count = word_count;
+    slide->region_log = region_log;
+}
+
 pcompact_fault pcompact_plan(uint64_t *words, size_t word_count, const uint64_t *live, const uint32_t *sizes, size_t live_count,
                              pcompact_settings settings, pcompact_slide *slide) {
     if (slide->regions) return fault_of(WORKERS);
     opaque_heap heap = {settings, word_count};
     pcompact_fault fault = pcompact_plan_at(live, live_count, sizes, live_count, heap, &slide->plan);
-    if (fault.number == 0) {
-        slide->words = words;
-        slide->word_count = word_count;
-        slide->region_log = settings.region_log;
-    }
+    if (fault.number == 0) keep_words(slide, words, word_count, settings.region_log);
+    return fault;
+}
+
+pcompact_fault pcompact_plan_marked(uint64_t *words, size_t word_count, const pcompact_layout *layout, pcompact_settings settings,
+                                    pcompact_slide *slide) {
+    if (slide->regions) return fault_of(WORKERS);
+    pcompact_fault fault = pcompact_plan_marked_at(&slide->plan, words, word_count, layout, settings);
+    if (fault.number == 0) keep_words(slide, words, word_count, settings.region_log);
     return fault;
 }
 
@@ -84,7 +95,7 @@ uint32_t pcompact_end_slide(pcompact_slide *slide, pcompact_handle *handles, siz
     if (count > 0) memcpy(slide->words + (slide->word_count - count), slide->last, count * sizeof(uint64_t));
     if (clears) memset(slide->words + top, 0, (slide->word_count - top) * sizeof(uint64_t));
     free_regions(slide);
-    *slide = (pcompact_slide){.words = NULL};
+    *slide = (pcompact_slide){.plan = slide->plan};
     return 0;
 }
 

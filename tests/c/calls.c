@@ -22,7 +22,10 @@ static void check_texts(void) {
     check(has_text((pcompact_fault){9, UINT32_MAX, UINT64_MAX}, "9 reference at 18446744073709551615 field 4294967295"),
           "the longest text");
     check(has_text((pcompact_fault){0, 0, 0}, ""), "no fault has no text");
-    check(has_text((pcompact_fault){18, 0, 0}, ""), "there is no fault 18");
+    check(has_text((pcompact_fault){18, 8, 0}, "18 layout rule 8"), "text of fault 18");
+    check(has_text((pcompact_fault){18, 0, 0}, "") && has_text((pcompact_fault){18, 9, 0}, ""), "there are 8 rules of layouts");
+    check(has_text((pcompact_fault){18, 1, 1}, ""), "fault 18 has no place");
+    check(has_text((pcompact_fault){19, 0, 0}, ""), "there is no fault 19");
     check(has_text((pcompact_fault){11, 1, 0}, ""), "fault 11 has no field");
     check(has_text((pcompact_fault){6, 0, UINT64_C(1) << 32}, ""), "an index has 32 bits");
 }

@@ -63,6 +63,9 @@ build lent -Itests/c tests/c/{lent,refusing_heap}.c
 build ends -Itests/c tests/c/{ends,refusing_heap}.c
 build places -Itests/c tests/c/{places,checks}.c
 build slide_refusals -Itests/c tests/c/{slide_refusals,opaque,refusing_heap}.c
+build marking_refusals -Itests/c tests/c/{marking_refusals,coded,opaque,refusing_heap}.c
+build marking -pthread -Itests/c tests/c/{marking,coded,opaque,refusing_heap}.c
+build_c marking-raced -g -fsanitize=thread -pthread -Itests/c tests/c/{marking,coded,opaque,refusing_heap}.c
 for caller in slide segments; do
     build "$caller" -pthread -Itests/c tests/c/{"$caller",opaque,refusing_heap}.c
     build_c "$caller-raced" -g -fsanitize=thread -pthread -Itests/c tests/c/{"$caller",opaque,refusing_heap}.c
@@ -83,7 +86,8 @@ run places
 try "$room/lent" 1000
 run lent 100
 run slide_refusals
-for caller in slide segments; do
+run marking_refusals
+for caller in slide segments marking; do
     try "$room/$caller" 2000
     run "$caller" 100
     try env TSAN_OPTIONS=suppressions=tests/c/threads.supp "$room/$caller-raced" 100

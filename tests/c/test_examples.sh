@@ -66,6 +66,20 @@ a cell at 0 with 22'
     try_watched "$room/first"
 }
 
+# Tagged values and headers of its own, which the library marks: many collections lose nothing.
+try_tagged() {
+    local lines='one 1
+two 2
+three 3
+the word behind three 4'
+    build_c tagged -O2 examples/c/tagged.c
+    build_c tagged-checked "${sanitized[@]}" examples/c/tagged.c
+    try prints "$lines" "$room/tagged"
+    try grep -q '^[1-9][0-9][0-9] collections$' "$room/told"
+    try prints "$lines" "$room/tagged-checked"
+    try_watched "$room/tagged"
+}
+
 try_cpp() {
     command -v "${CXX:-c++}" >/dev/null || { skip 'the example in C++, as there is no compiler'; return; }
     local words=(-std=c++11 -Wall -Wextra -pedantic -Werror "-I$library" examples/cpp/collect.cpp "$library/libpcompact.a")
@@ -89,6 +103,7 @@ try_rust() {
 find_needs
 try_first
 try_lisp
+try_tagged
 try_cpp
 try_rust
 end

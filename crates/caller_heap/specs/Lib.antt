@@ -1,6 +1,7 @@
 pub mod Collected
 pub mod HeapWords
 pub mod Lent
+pub mod Markings
 pub mod Parts
 pub mod Slots
 pub mod Places

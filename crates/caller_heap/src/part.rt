@@ -1,13 +1,17 @@
 //! A worker's part in a collection, as its host keeps it.
-ghost use Rattle.std.specs.Prelude.{◌≡◌, ◌⊎◌, ◌≤◌, ◌||◌, ℕ, List, [], All, Option, Some, None, IfOk, IfErr, IfSome, IfNone, is_some, vec_len, map, option_map};
+ghost use Rattle.std.specs.Prelude.{◌≡◌, ◌⊎◌, ◌≤◌, ◌||◌, false, ℕ, List, [], All, Option, Some, None, Err, IfOk, OnOk, IfErr, IfSome, IfNone, is_some, vec_len, map, option_map};
 ghost use Rattle.std.specs.Vec.{vec_capacity};
-ghost use Rattle.object_heap.specs.HeapImage.{HeapImage};
-ghost use Rattle.image_streams.specs.declared.fault.Fault.TheVariants.{Memory, Workers};
+ghost use Rattle.object_heap.specs.HeapImage.{HeapImage, heap_words};
+ghost use Rattle.object_heap.specs.Reachable.{is_listed};
+ghost use Rattle.image_streams.specs.declared.fault.Fault.TheVariants.{Memory, Workers, Length};
+ghost use Rattle.coded_marking.specs.Marking.{Marks};
+ghost use Rattle.coded_redirection.specs.References.{redirected_words};
 ghost use Rattle.collector.specs.Collections.{IfKept, IfLost};
 ghost use Rattle.collector.specs.Sessions.{image_of, held_of};
 ghost use Rattle.collector.specs.NewPlaces.{IsNewPlace};
 ghost use Rattle.collector.specs.Slides.{IsNextObject};
 ghost use Rattle.caller_heap.specs.Parts.{IsPartOf};
+ghost use Rattle.caller_heap.specs.Markings.{IsMarkedFrom, IsStoppedAt};
 ghost use Rattle.caller_heap.specs.Slides.{planned_in};
 ghost use Rattle.caller_heap.specs.Slots.{redirected_slot};
 ghost use Rattle.caller_heap.specs.declared.part.Origin.{Origin};
@@ -15,8 +19,11 @@ ghost use Rattle.caller_heap.specs.declared.part.Origin.{Origin};
 use crate::lent_collection::suits;
 use crate::planned_slide::PlannedSlide;
 use crate::slots::{Places, SlotCoding, redirect_slots};
+use coded_marking::{CodedHeap, Marking};
+use coded_redirection::redirect_objects;
 use collector::{NewPlace, Progress, Refusal, Session, Share};
 use heap_image::{Fault, Image};
+use object_coding::ObjectCoding;
 use scheduler::MAX_WORKERS;
 use std::alloc::{AllocError, Global};
 use std::mem;
@@ -30,16 +37,18 @@ pub enum Origin {
     Lent(u64),
     /// The same, of opaque objects.
     Slid(u64),
-    /// It has none yet: a slide of opaque objects is planned.
+    /// It has none yet: a slide of opaque objects is planned, or its objects are being marked.
     Planned,
 }
 
-/// A worker's share in a collection, and where that has its words; or a planned slide of opaque objects.
+/// A worker's share in a collection, and where that has its words; or a planned slide of opaque objects; or a marking, after
+/// which one is planned.
 #[derive(Drop)]
 pub struct Part {
-    /// `None` of a planned slide, or while the part waits for its share.
+    /// `None` of a marking or a planned slide, or while the part waits for its share.
     pub share: Option<Share>,
     pub slide: Option<PlannedSlide>,
+    pub marking: Option<Marking>,
     pub origin: Origin,
 }
 
@@ -114,6 +123,63 @@ impl Part {
             (Some(share), _) => Some(Places::of_share(share)),
             (None, Some(planned)) => Some(Places::of_slide(planned.slide())),
             (None, None) => None,
+        }
+    }
+
+    /// Redirects the references of the objects of the planned slide that begin in these words of the heap, from address `first`
+    /// on, as [`redirect_objects`](coded_redirection::redirect_objects). Returns whether there is a planned slide.
+    pub fn redirect_objects(
+        &self,
+        coding: &ObjectCoding,
+        dead: u64,
+        first: u64,
+        words: &mut [u64],
+    ) -> bool
+        ensures slide { IfSome (planned_in self.now.share self.now.slide) (λ image. words.new ≡ redirected_words image coding.now first words.old dead) }
+        ensures none { IfNone (planned_in self.now.share self.now.slide) (words.new ≡ words.old) }
+        ensures some { result ≡ is_some (planned_in self.now.share self.now.slide) }
+    {
+        match (&self.share, &self.slide) {
+            (None, Some(planned)) => {
+                redirect_objects(planned.slide().survey(), coding, dead, first, words);
+                true
+            }
+            _ => false,
+        }
+    }
+
+    /// Marks what these roots reach, as [`Marking::mark`]. Fails with fault 12 without a marking, with 4 if that is of another
+    /// number of words, and with 7 at a reached object without a sound header.
+    pub fn mark(&mut self, heap: &CodedHeap<'_>, roots: &[u64]) -> Result<(), Fault>
+        ensures marked { OnOk result ((before : Marks) → self.old.marking ≡ Some before
+            → (after : Marks) × (self.new.marking ≡ Some after) × IsMarkedFrom heap.now roots.now before after) }
+        ensures stopped { IfErr result (λ fault. (before : Marks) → self.old.marking ≡ Some before → before.words ≡ heap_words heap.now
+            → (after : Marks) × (self.new.marking ≡ Some after) × IsStoppedAt heap.now roots.now fault before after) }
+        ensures length { (before : Marks) → self.old.marking ≡ Some before → (before.words ≡ heap_words heap.now → ⊥)
+            → (result ≡ Err Length) × (self.new ≡ self.old) }
+        ensures none { self.old.marking ≡ None → (result ≡ Err Workers) × (self.new ≡ self.old) }
+        ensures rest { (self.new.share ≡ self.old.share) × (self.new.slide ≡ self.old.slide) × (self.new.origin ≡ self.old.origin) }
+    {
+        let Some(marking) = &mut self.marking else {
+            return Err(Fault::Workers);
+        };
+        if marking.words() != heap.len() {
+            return Err(Fault::Length);
+        }
+        match marking.mark(heap, roots) {
+            Ok(()) => Ok(()),
+            Err(unsound) => Err(Fault::Header(unsound.address)),
+        }
+    }
+
+    /// Whether the object at this address is marked. Without a marking none is.
+    pub fn is_reached(&self, address: u64) -> bool
+        ensures marking { IfSome self.now.marking (λ marks. result ≡ is_listed marks.marked address) }
+        ensures none { IfNone self.now.marking (result ≡ false) }
+    {
+        match &self.marking {
+            Some(marking) => marking.is_reached(address),
+            None => false,
         }
     }
 
@@ -200,9 +266,11 @@ pub(crate) fn empty_parts(
     for _ in 0..workers {
         let share = None;
         let slide = None;
+        let marking = None;
         let part = Part {
             share,
             slide,
+            marking,
             origin,
         };
         match Box::new(alloc, part) {

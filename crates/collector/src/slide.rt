@@ -70,11 +70,11 @@ pub struct RefusedSlide {
 
 impl Slide {
     /// Plans the slide of these objects. The only fault is 11, if memory runs out.
-    pub fn plan(alloc: Global, objects: OpaqueObjects) -> Result<Slide, Fault>
-        ensures slide { IfOk result (λ slide. slide ≡ objects) }
+    pub fn plan(alloc: Global, objects: &OpaqueObjects<'_>) -> Result<Slide, Fault>
+        ensures slide { IfOk result (λ slide. slide ≡ objects.now) }
         ensures fault { IfErr result (λ fault. fault ≡ Memory) }
     {
-        let survey = Survey::of_objects(alloc, &objects, &Alone)?;
+        let survey = Survey::of_objects(alloc, objects, &Alone)?;
         Ok(Slide {
             survey,
             numbers: objects.len(),
@@ -93,6 +93,13 @@ impl Slide {
         ensures { IsNextObject self.now from result }
     {
         self.survey.marks().next_begin(from)
+    }
+
+    /// What is known of the objects: their marks, and the plan of the slide.
+    pub fn survey(&self) -> &Survey
+        ensures { result.now ≡ self.now }
+    {
+        &self.survey
     }
 
     /// What the slide will do.

@@ -25,7 +25,7 @@ fn plan(alloc: Global, heap: OpaqueHeap, live: &[u64], sizes: &[u32]) -> Result<
     if live.len() != sizes.len() {
         return Err(Fault::Length);
     }
-    Slide::plan(alloc, OpaqueObjects::new(alloc, heap, live, sizes)?)
+    Slide::plan(alloc, &OpaqueObjects::new(heap, live, sizes)?)
 }
 
 #[test]

@@ -4,6 +4,5 @@ pub mod Runs
 pub mod Ends
 pub mod PartBits
 pub mod Opaque
-pub mod Pieces
 pub mod OpaqueValid
 pub mod OpaqueImage

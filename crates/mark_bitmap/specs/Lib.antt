@@ -2,3 +2,5 @@ pub mod Marks
 pub mod OpaqueObjects
 pub mod Listed
 pub mod Surveyed
+pub mod Sizes
+pub mod Noted

@@ -1,12 +1,12 @@
 -- Opaque objects, of which only the addresses and sizes are known.
-use Rattle.std.specs.Prelude.{◌≡◌, ◌⊎◌, ℕ, ◌+◌, ◌-◌, ◌*◌, ◌/◌, ◌%◌, ◌^◌, ◌<◌, ◌≤◌, ◌==◌, ◌&&◌, ◌||◌, nat_lt, if◌then◌else◌, List, [], ◌∷◌, length, map, take, slice_index, slice_index_or, Option, None, Some}
+use Rattle.std.specs.Prelude.{◌≡◌, ◌⊎◌, ℕ, ◌+◌, ◌-◌, ◌*◌, ◌^◌, ◌<◌, ◌==◌, ◌&&◌, ◌||◌, nat_lt, if◌then◌else◌, List, [], ◌∷◌, length, map, slice_index, Option, None, Some}
 use Rattle.std.specs.Int.{div_ceil}
-use Rattle.std.specs.List.{concat, range_with_len}
+use Rattle.std.specs.List.{range_with_len}
 use Rattle.object_heap.specs.Header.{object_header}
 use Rattle.object_heap.specs.HeapImage.{HeapImage, IsValid}
 use Rattle.object_heap.specs.Layout.{Own}
 use Rattle.object_heap.specs.ObjectFaults.{is_misplaced}
-use Rattle.object_heap.specs.Sizes.{AreSizes}
+use Rattle.object_heap.specs.Sizes.{AreSizesOf}
 use Rattle.object_heap.specs.declared.version.Version.TheVariants.{Three}
 use Rattle.image_streams.specs.declared.fault.Fault.{Fault}
 use Rattle.image_streams.specs.declared.fault.Fault.TheVariants.{RegionLog, Length, LiveOrder, Header, Overlap}
@@ -66,13 +66,8 @@ IsFirstFaultOf region_log words live sizes fault =
     (settings_fault region_log words (length live) ≡ Some fault)
     ⊎ ((settings_fault region_log words (length live) ≡ None) × IsFirstObjectFault words live sizes fault)
 
--- the pieces of 64 sizes, which may end with zeros, are those of a valid image
-pub record AreOpaque (region_log allowance regions : ℕ) (live : List ℕ) (pieces : List (List ℕ)) : Type 0 where
-  pub valid : IsValid (opaque_image region_log allowance regions live (concat pieces))
-  pub sized : AreSizes (opaque_image region_log allowance regions live (concat pieces)) pieces
-
--- the pieces of 64 have these numbers, and then zeros
-pub record IsCut (numbers : List ℕ) (pieces : List (List ℕ)) : Type 0 where
-  pub count : length numbers ≤ 64 * length pieces
-  pub each : (i : ℕ) → i < length numbers → slice_index (slice_index_or pieces (i / 64) []) (i % 64) ≡ slice_index numbers i
-  pub front : take (length numbers) (concat pieces) ≡ numbers
+-- these are the sizes of as many objects of a valid image
+pub record AreOpaque (region_log allowance regions : ℕ) (live sizes : List ℕ) : Type 0 where
+  pub valid : IsValid (opaque_image region_log allowance regions live sizes)
+  pub count : length sizes ≡ length live
+  pub sized : AreSizesOf (opaque_image region_log allowance regions live sizes) live sizes

@@ -6,4 +6,4 @@ use Rattle.mark_bitmap.specs.declared.surveyed.Subject.TheVariants.{Image, Objec
 -- the image, as contracts see it
 abbrev pub image_of_subject : Subject → HeapImage
 image_of_subject (Image image) = image.value
-image_of_subject (Objects objects) = objects.value
+image_of_subject (Objects objects) = objects.image

@@ -21,9 +21,11 @@ mod listed;
 mod live_shares;
 mod mark_builder;
 mod marks;
+mod noted;
 mod objects;
 mod opaque_objects;
 mod part_bits;
+mod sizes;
 mod surveyed;
 
 pub use laws::{listed_image_is_valid, marked_image_is_valid};

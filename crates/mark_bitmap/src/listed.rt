@@ -1,11 +1,12 @@
 //! A heap whose live objects are listed.
-ghost use Rattle.std.specs.Prelude.{◌≡◌, ◌<◌, ◌≤◌, ◌^◌, length, slice_index, IfOk, IfErr};
-ghost use Rattle.object_heap.specs.HeapImage.{IsValid, heap_words, region_words, region_count, size_at, words_alone};
-ghost use Rattle.object_heap.specs.Sizes.{AreSizes};
+ghost use Rattle.std.specs.Prelude.{◌≡◌, ◌<◌, ◌≤◌, ◌^◌, length, slice_index};
+ghost use Rattle.object_heap.specs.HeapImage.{IsValid, heap_words, region_words, region_count, size_at};
+ghost use Rattle.mark_bitmap.specs.Sizes.{AreSizesBy};
 
 use crate::opaque_objects::OpaqueObjects;
+use crate::sizes::Sizes;
 use crate::surveyed::Surveyed;
-use heap_image::{Heap, Image, PIECE, image_is_valid, regions_by_log};
+use heap_image::{Image, PIECE, image_is_valid, regions_by_log};
 use std::marker::Model;
 use std::snapshot::Snapshot;
 
@@ -21,7 +22,7 @@ pub struct Listed<'a> {
 #[derive(Drop)]
 enum Subject<'a> {
     Image(&'a Image),
-    Objects(&'a OpaqueObjects),
+    Objects(&'a OpaqueObjects<'a>),
 }
 
 impl<'a> Model for Listed<'a> {
@@ -44,7 +45,7 @@ impl<'a> Listed<'a> {
     }
 
     /// The live objects of a heap of opaque ones.
-    pub fn of_objects(objects: &'a OpaqueObjects) -> Listed<'a>
+    pub fn of_objects(objects: &'a OpaqueObjects<'a>) -> Listed<'a>
         ensures { result ≡ objects.now }
     {
         Listed {
@@ -124,14 +125,16 @@ impl<'a> Listed<'a> {
         }
     }
 
-    /// The sizes of the live objects in pieces of [`PIECE`]. Where they aren't noted, the heap with their headers.
-    pub(crate) fn sizes(&self) -> Result<&[[u32; PIECE]], Heap<'_>>
-        ensures noted { IfOk result (λ sizes. AreSizes self.now sizes.now) }
-        ensures headed { IfErr result (λ heap. heap ≡ words_alone self.now) }
+    /// What says the sizes of the live objects.
+    pub(crate) fn sizes(&self) -> Sizes<'_>
+        ensures { AreSizesBy self.now result }
     {
         match &self.subject {
-            Subject::Image(image) => image.sizes().ok_or(image.heap()),
-            Subject::Objects(objects) => Ok(objects.sizes()),
+            Subject::Image(image) => match image.sizes() {
+                Some(pieces) => Sizes::Noted(pieces),
+                None => Sizes::InHeaders(image.heap()),
+            },
+            Subject::Objects(objects) => Sizes::Listed(objects.sizes()),
         }
     }
 
@@ -142,8 +145,9 @@ impl<'a> Listed<'a> {
         ensures few { result < 2 ^ 32 }
     {
         match self.sizes() {
-            Ok(pieces) => u64::from(pieces[i / PIECE][i % PIECE]),
-            Err(heap) => heap.size_at(self.live()[i]),
+            Sizes::Noted(pieces) => u64::from(pieces[i / PIECE][i % PIECE]),
+            Sizes::Listed(sizes) => u64::from(sizes[i]),
+            Sizes::InHeaders(heap) => heap.size_at(self.live()[i]),
         }
     }
 }

@@ -68,7 +68,7 @@ impl Marks {
     /// Builds the marks of opaque objects, by their list. The builder's threads set the live bits.
     pub fn of_objects<B: MarkBuilder>(
         alloc: Global,
-        objects: &OpaqueObjects,
+        objects: &OpaqueObjects<'_>,
         builder: &B,
     ) -> Result<Marks, AllocError>
         requires { B.may_start }

@@ -9,6 +9,7 @@ ghost use Rattle.mark_bitmap.specs.Marks.{AreBegins, AreBitsFrom, IsBlankPart, I
 use crate::laws::listed_image_is_valid;
 use crate::listed::Listed;
 use crate::part_bits::insert_within;
+use crate::sizes::Sizes;
 use heap_image::{Bits, Heap, Image, PIECE};
 use std::alloc::{AllocError, Global};
 
@@ -100,21 +101,24 @@ fn mark_ends_of(image: &Listed<'_>, piece: usize, start: usize, ends: &mut [u64]
     let objects = image.live();
     let from = piece * PIECE;
     let to = objects.len().min(from + PIECE);
-    let lasts = last_words(image, &objects[from..to], piece);
+    let lasts = last_words(image, from, to);
     insert_within(ends, 64 * start as u64, &lasts[..to - from]);
 }
 
-/// The addresses of the last words of the objects of a piece of the live list, and zeros after them.
-fn last_words(image: &Listed<'_>, objects: &[u64], piece: usize) -> [u64; PIECE]
-    requires piece { 64 * piece < length image.now.live }
-    requires objects { objects.now ≡ take (length objects.now) (drop (64 * piece) image.now.live) }
-    requires few { length objects.now ≤ 64 }
-    ensures { take (length objects.now) result ≡ map (λ a. end_of image.now a - 1) objects.now }
+/// The addresses of the last words of the objects of a piece of the live list, from one index up to another, and zeros after them.
+fn last_words(image: &Listed<'_>, from: usize, to: usize) -> [u64; PIECE]
+    requires piece { from % 64 ≡ 0 }
+    requires some { from < to }
+    requires few { to ≤ from + 64 }
+    requires inside { to ≤ length image.now.live }
+    ensures { take (to - from) result ≡ map (λ a. end_of image.now a - 1) (take (to - from) (drop from image.now.live)) }
 {
     listed_image_is_valid(image);
+    let objects = &image.live()[from..to];
     match image.sizes() {
-        Ok(sizes) => last_words_by_sizes(image, objects, &sizes[piece]),
-        Err(heap) => last_words_by_headers(image, &heap, objects),
+        Sizes::Noted(pieces) => last_words_by_sizes(image, objects, &pieces[from / PIECE]),
+        Sizes::Listed(sizes) => last_words_by_sizes(image, objects, &sizes[from..to]),
+        Sizes::InHeaders(heap) => last_words_by_headers(image, &heap, objects),
     }
 }
 
@@ -138,9 +142,10 @@ fn last_words_by_headers(image: &Listed<'_>, heap: &Heap<'_>, objects: &[u64]) -
 
 /// The addresses of the last words of a few objects of these sizes, and zeros after them.
 #[inline]
-fn last_words_by_sizes(image: &Listed<'_>, objects: &[u64], sizes: &[u32; PIECE]) -> [u64; PIECE]
+fn last_words_by_sizes(image: &Listed<'_>, objects: &[u64], sizes: &[u32]) -> [u64; PIECE]
     requires valid { IsValid image.now }
     requires few { length objects.now ≤ 64 }
+    requires enough { length objects.now ≤ length sizes.now }
     requires sound { All (HasSoundHeader image.now) objects.now }
     requires sizes { AreSizesOf image.now objects.now sizes.now }
     ensures { take (length objects.now) result ≡ map (λ a. end_of image.now a - 1) objects.now }

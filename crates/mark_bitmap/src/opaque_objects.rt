@@ -1,15 +1,13 @@
 //! Opaque objects, of which only the addresses and sizes are known.
-ghost use Rattle.std.specs.Prelude.{◌≡◌, ◌⊎◌, ◌<◌, ◌≤◌, ◌^◌, ◌*◌, ◌+◌, ℕ, IfOk, IfErr, IfSome, IfNone, length, slice_index};
+ghost use Rattle.std.specs.Prelude.{◌≡◌, ◌<◌, ◌≤◌, ◌^◌, IfOk, IfErr, IfSome, IfNone, length};
 ghost use Rattle.std.specs.Int.{div_ceil};
-ghost use Rattle.image_streams.specs.declared.fault.Fault.TheVariants.{Memory};
 ghost use Rattle.object_heap.specs.HeapImage.{IsValid, region_count};
-ghost use Rattle.object_heap.specs.Sizes.{AreSizes};
+ghost use Rattle.object_heap.specs.Sizes.{AreSizesOf};
 ghost use Rattle.heap_image.specs.ImageText.{with_tail};
-ghost use Rattle.mark_bitmap.specs.OpaqueObjects.{opaque_image, settings_fault, object_fault, AreApart, IsFirstObjectFault, IsFirstFaultOf, IsCut};
+ghost use Rattle.mark_bitmap.specs.OpaqueObjects.{opaque_image, settings_fault, object_fault, AreApart, IsFirstObjectFault, IsFirstFaultOf};
 
-use heap_image::{Fault, PIECE, blocks_joined, live_objects_are_reached, regions_by_log};
+use heap_image::{Fault, live_objects_are_reached, regions_by_log};
 use object_heap::layouts_are_lawful;
-use std::alloc::{AllocError, Global};
 use std::marker::Model;
 
 /// The numbers of a heap of opaque objects.
@@ -23,56 +21,43 @@ pub struct OpaqueHeap {
     pub words: u64,
 }
 
-/// Opaque objects: where they lie in their heap, which is all that is known of them.
+/// Opaque objects: where they lie in their heap, by the host's lists, which is all that is known of them.
 ///
 /// Contracts view them as an image that has nothing but objects of these sizes at these addresses.
-pub struct OpaqueObjects {
+#[derive(Drop)]
+pub struct OpaqueObjects<'a> {
     region_log: u32,
     allowance: u64,
     regions: u32,
-    live: Vec<u64>,
-    sizes: Vec<[u32; PIECE]>,
+    live: &'a [u64],
+    sizes: &'a [u32],
 }
 
-impl Drop for OpaqueObjects {
-    fn drop(self) {
-        let Self {
-            region_log,
-            allowance,
-            regions,
-            live,
-            sizes,
-        } = self;
-    }
-}
-
-impl Model for OpaqueObjects {
-    ghost use Rattle.std.specs.List.{concat};
+impl<'a> Model for OpaqueObjects<'a> {
     ghost use Rattle.object_heap.specs.HeapImage.{HeapImage};
     ghost use Rattle.mark_bitmap.specs.OpaqueObjects.{opaque_image, AreOpaque};
 
     ghost Value = { HeapImage };
 
-    ghost view = { λ o. opaque_image o.region_log o.allowance o.regions o.live.items (concat o.sizes.items) };
+    ghost view = { λ o. opaque_image o.region_log o.allowance o.regions o.live.now o.sizes.now };
 
-    ghost invariant = { λ o. AreOpaque o.region_log o.allowance o.regions o.live.items o.sizes.items };
+    ghost invariant = { λ o. AreOpaque o.region_log o.allowance o.regions o.live.now o.sizes.now };
 }
 
-impl OpaqueObjects {
+impl<'a> OpaqueObjects<'a> {
     /// The objects at these ascending addresses with these sizes in words, of as many.
     ///
     /// Returns the first fault: 3 or 4 of the heap's numbers, or else that of the first object with which something is wrong, 6
-    /// out of order or outside, 7 without a word or too long, 8 over the one before it. 11 if memory runs out: copies both lists.
+    /// out of order or outside, 7 without a word or too long, 8 over the one before it.
     pub fn new(
-        alloc: Global,
         heap: OpaqueHeap,
-        live: &[u64],
-        sizes: &[u32],
-    ) -> Result<OpaqueObjects, Fault>
+        live: &'a [u64],
+        sizes: &'a [u32],
+    ) -> Result<OpaqueObjects<'a>, Fault>
         requires same { length sizes.now ≡ length live.now }
         ensures objects { IfOk result (λ objects.
             objects ≡ opaque_image heap.region_log heap.allowance (div_ceil heap.words (2 ^ heap.region_log)) live.now sizes.now) }
-        ensures fault { IfErr result (λ fault. (fault ≡ Memory) ⊎ IsFirstFaultOf heap.region_log heap.words live.now sizes.now fault) }
+        ensures fault { IfErr result (IsFirstFaultOf heap.region_log heap.words live.now sizes.now) }
     {
         if let Some(fault) = settings_fault(heap, live.len()) {
             return Err(fault);
@@ -82,11 +67,8 @@ impl OpaqueObjects {
         }
         layouts_are_lawful();
         live_objects_are_reached();
-        blocks_joined();
         regions_by_log();
         let regions = heap.words.div_ceil(1 << heap.region_log) as u32;
-        let sizes = pieces_of(alloc, sizes)?;
-        let live = Vec::from_slice(alloc, live)?;
         Ok(OpaqueObjects {
             region_log: heap.region_log,
             allowance: heap.allowance,
@@ -132,14 +114,15 @@ impl OpaqueObjects {
         ensures value { result.now ≡ self.now.live }
         ensures valid { IsValid self.now }
     {
-        self.live.as_slice()
+        self.live
     }
 
-    /// The sizes in words, in pieces of [`PIECE`].
-    pub(crate) fn sizes(&self) -> &[[u32; PIECE]]
-        ensures { AreSizes self.now result.now }
+    /// The sizes in words, of as many.
+    pub(crate) fn sizes(&self) -> &[u32]
+        ensures count { length result.now ≡ length self.now.live }
+        ensures sizes { AreSizesOf self.now self.now.live result.now }
     {
-        self.sizes.as_slice()
+        self.sizes
     }
 }
 
@@ -195,29 +178,4 @@ fn object_fault(words: u64, live: &[u64], sizes: &[u32], i: usize) -> Option<Fau
         return Some(Fault::Overlap(at));
     }
     None
-}
-
-/// The sizes in pieces, of which the last may end with zeros.
-fn pieces_of(alloc: Global, sizes: &[u32]) -> Result<Vec<[u32; PIECE]>, AllocError>
-    ensures { IfOk result (λ pieces. IsCut sizes.now pieces.items) }
-{
-    blocks_joined();
-    let count = sizes.len().div_ceil(PIECE);
-    let mut pieces = Vec::with_capacity(alloc, count)?;
-    for i in 0..count {
-        pieces.push_reserved(piece_of(sizes, i));
-    }
-    Ok(pieces)
-}
-
-/// The `i`-th piece of these sizes, which may end with zeros.
-fn piece_of(sizes: &[u32], i: usize) -> [u32; PIECE]
-    requires { 64 * i < length sizes.now }
-    ensures { (j : ℕ) → j < 64 → 64 * i + j < length sizes.now → slice_index result j ≡ slice_index sizes.now (64 * i + j) }
-{
-    let from = i * PIECE;
-    let to = sizes.len().min(from + PIECE);
-    let mut piece = [0; PIECE];
-    piece[..to - from].copy_from_slice(&sizes[from..to]);
-    piece
 }

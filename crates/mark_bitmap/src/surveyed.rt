@@ -1,5 +1,7 @@
+//! What marks and plans were made of.
 ghost use Rattle.std.specs.Prelude.{◌≡◌};
 
+use crate::noted::Noted;
 use crate::opaque_objects::OpaqueObjects;
 use heap_image::Image;
 use std::marker::Model;
@@ -15,7 +17,7 @@ pub struct Surveyed {
 #[derive(Drop)]
 enum Subject {
     Image(Snapshot<Image>),
-    Objects(Snapshot<OpaqueObjects>),
+    Objects(Noted),
 }
 
 impl Drop for Surveyed {
@@ -42,11 +44,11 @@ impl Surveyed {
         }
     }
 
-    pub(crate) fn objects(objects: &OpaqueObjects) -> Surveyed
+    pub(crate) fn objects(objects: &OpaqueObjects<'_>) -> Surveyed
         ensures { result ≡ objects.now }
     {
         Surveyed {
-            subject: Subject::Objects(Snapshot::of(objects)),
+            subject: Subject::Objects(Noted::of(objects)),
         }
     }
 }

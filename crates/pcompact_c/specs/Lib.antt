@@ -2,6 +2,8 @@ pub mod Answers
 pub mod Decoded
 pub mod Faults
 pub mod Handles
+pub mod Layouts
+pub mod Markings
 pub mod Places
 pub mod Strays
 pub mod Verdicts

@@ -151,6 +151,7 @@ fn with_share(
     let Part {
         share,
         slide: _,
+        marking: _,
         origin: _,
     } = Box::into_inner(part);
     let Some(share) = share else {

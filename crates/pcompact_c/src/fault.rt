@@ -12,7 +12,7 @@ use heap_image::Fault;
 pub struct PcompactFault {
     /// The number of the fault, or 0 if there is none.
     pub number: u32,
-    /// The field of fault 9, otherwise 0.
+    /// The field of fault 9, what is wrong with the layout of fault 18, otherwise 0.
     pub field: u32,
     /// The index of faults 6 and 17, the address of faults 7 to 9, the line of fault 14, the region of fault 15, and
     /// otherwise 0.
@@ -69,6 +69,12 @@ impl PcompactFault {
         } else {
             None
         }
+    }
+
+    /// Of the fault of a layout, the number of what is wrong with it.
+    pub(crate) fn layout_rule(self) -> Option<u32> {
+        let is_known = self.number == 18 && self.place == 0 && self.field >= 1 && self.field <= 8;
+        is_known.then_some(self.field)
     }
 
     /// The fault with this number whose place and field, if it has them, are these.

@@ -2,7 +2,7 @@
 ghost use Rattle.std.specs.Prelude.{◌≡◌, ◌<◌, ◌+◌, ℕ, length, slice_index};
 
 use crate::fault::PcompactFault;
-use std::fmt;
+use std::fmt::{self, Write};
 
 /// The room for a text. The longest has 52 bytes.
 const ROOM: usize = 63;
@@ -44,6 +44,8 @@ impl Line {
         };
         if let Some(fault) = fault.fault() {
             let _ = fmt::Write::write(&mut line, fault);
+        } else if let Some(rule) = fault.layout_rule() {
+            let _ = write!(line, "18 layout rule {rule}");
         }
         line
     }

@@ -1,11 +1,15 @@
 //! A worker's part in a collection, as a host keeps it.
-ghost use Rattle.std.specs.Prelude.{◌≡◌, true, false, IsTrue, Some, None, Option, MatchOption, is_some, map};
+ghost use Rattle.std.specs.Prelude.{◌≡◌, true, false, IsTrue, Some, None, Option, MatchOption, Err, OnOk, IfErr, is_some, map};
 ghost use Rattle.caller_heap.specs.declared.part.Part.{Part};
 ghost use Rattle.pcompact_c.specs.Handles.{parts_coded};
 
+use crate::objects::PcompactObjects;
 use crate::raw_box::RawBox;
 use caller_heap::{Origin, Part, SlotCoding};
+use coded_marking::CodedHeap;
 use collector::{NewPlace, Progress};
+use heap_image::Fault;
+use object_coding::ObjectCoding;
 use std::alloc::Global;
 use std::marker::{Model, Send};
 use std::mem;
@@ -43,10 +47,16 @@ impl Model for PcompactHandle {
 unsafe impl Send for PcompactHandle {}
 
 impl PcompactHandle {
-    ghost use Rattle.object_heap.specs.HeapImage.{HeapImage};
+    ghost use Rattle.image_streams.specs.declared.fault.Fault.TheVariants.{Length, Workers};
+    ghost use Rattle.object_heap.specs.HeapImage.{HeapImage, heap_words};
+    ghost use Rattle.object_heap.specs.Reachable.{is_listed};
+    ghost use Rattle.coded_marking.specs.Marking.{Marks};
+    ghost use Rattle.coded_redirection.specs.References.{redirected_words};
     ghost use Rattle.collector.specs.Slides.{IsNextObject};
+    ghost use Rattle.caller_heap.specs.Markings.{IsMarkedFrom, IsStoppedAt};
     ghost use Rattle.caller_heap.specs.Slots.{redirected_slot};
     ghost use Rattle.pcompact_c.specs.Handles.{image_in, origin_in};
+    ghost use Rattle.pcompact_c.specs.Markings.{marking_in};
     ghost use Rattle.pcompact_c.specs.Places.{IsNewAddress};
     ghost use Rattle.pcompact_c.specs.Slides.{plan_in, held_in};
 
@@ -224,6 +234,65 @@ impl PcompactHandle {
         let is_redirected = part.redirect(coding, slots);
         self.enter(part);
         is_redirected
+    }
+
+    /// Redirects the references of the objects of the planned slide that begin in these words of the heap. Returns whether a slide
+    /// is planned.
+    pub(crate) fn redirect_objects(
+        &mut self,
+        alloc: Global,
+        coding: &ObjectCoding,
+        objects: PcompactObjects,
+        words: &mut [u64],
+    ) -> bool
+        ensures part { self.new.2 ≡ self.old.2 }
+        ensures planned { (image : HeapImage) → plan_in self.old ≡ Some image
+            → (words.new ≡ redirected_words image coding.now objects.first words.old objects.dead) × (result ≡ true) }
+        ensures not_planned { plan_in self.old ≡ None → (words.new ≡ words.old) × (result ≡ false) }
+    {
+        let Some(part) = self.leave(alloc) else {
+            return false;
+        };
+        let is_redirected = part.redirect_objects(coding, objects.dead, objects.first, words);
+        self.enter(part);
+        is_redirected
+    }
+
+    /// Marks what these roots reach, as [`Part::mark`]. Fails with fault 12 also if the handle isn't held.
+    pub(crate) fn mark(
+        &mut self,
+        alloc: Global,
+        heap: &CodedHeap<'_>,
+        roots: &[u64],
+    ) -> Result<(), Fault>
+        ensures marked { OnOk result ((before : Marks) → marking_in self.old ≡ Some before
+            → (after : Marks) × (marking_in self.new ≡ Some after) × IsMarkedFrom heap.now roots.now before after) }
+        ensures stopped { IfErr result (λ fault. (before : Marks) → marking_in self.old ≡ Some before → before.words ≡ heap_words heap.now
+            → (after : Marks) × (marking_in self.new ≡ Some after) × IsStoppedAt heap.now roots.now fault before after) }
+        ensures length { (before : Marks) → marking_in self.old ≡ Some before → (before.words ≡ heap_words heap.now → ⊥)
+            → (result ≡ Err Length) × (self.new.2 ≡ self.old.2) }
+        ensures none { marking_in self.old ≡ None → (result ≡ Err Workers) × (self.new.2 ≡ self.old.2) }
+    {
+        let Some(mut part) = self.leave(alloc) else {
+            return Err(Fault::Workers);
+        };
+        let marked = part.mark(heap, roots);
+        self.enter(part);
+        marked
+    }
+
+    /// Whether the object at this address is marked. None is if the handle has no marking.
+    pub(crate) fn is_reached(&mut self, alloc: Global, address: u64) -> bool
+        ensures part { self.new.2 ≡ self.old.2 }
+        ensures marking { (marks : Marks) → marking_in self.old ≡ Some marks → result ≡ is_listed marks.marked address }
+        ensures none { marking_in self.old ≡ None → result ≡ false }
+    {
+        let Some(part) = self.leave(alloc) else {
+            return false;
+        };
+        let is_reached = part.is_reached(address);
+        self.enter(part);
+        is_reached
     }
 
     /// Lets the worker fill regions that are ready, at most `turns`. Returns `None` if the handle isn't held.

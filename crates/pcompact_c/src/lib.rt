@@ -18,6 +18,9 @@ mod end;
 mod fault;
 mod fault_text;
 mod handle;
+mod layout;
+mod marking;
+mod objects;
 mod places;
 mod plan;
 mod raw_box;
@@ -33,6 +36,8 @@ pub use caller_heap::{HeapSettings as PcompactSettings, SlotCoding as PcompactSl
 pub use decode::PcompactHeap;
 pub use fault::PcompactFault;
 pub use handle::PcompactHandle;
+pub use object_coding::ObjectLayout as PcompactLayout;
+pub use objects::PcompactObjects;
 pub use raw_region::HostWords as PcompactWords;
 pub use slide::PcompactOpaqueHeap;
 pub use verdict::PcompactVerdict;

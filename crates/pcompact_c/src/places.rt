@@ -51,8 +51,8 @@ pub extern "C" fn pcompact_next_object(alloc: Global, handle: &mut PcompactHandl
 }
 
 /// Redirects slots that are kept outside of the heap: each that leads to a word of it by this coding leads to where the
-/// collection or the planned slide of the handle takes the word, or becomes `dead` if no live object has it. All others stay. Returns 0, or 5 if the
-/// handle isn't held, and then all stay.
+/// collection or the planned slide of the handle takes the word, or becomes `dead` if no live object has it. All others stay.
+/// Returns 0, or 5 if the handle isn't held, and then all stay.
 #[unsafe(no_mangle)]
 pub extern "C" fn pcompact_redirect(
     alloc: Global,

@@ -70,7 +70,7 @@ pub extern "C" fn pcompact_plan_at(
 }
 
 /// A part with the planned slide of these objects.
-fn planned(
+pub(crate) fn planned(
     alloc: Global,
     live: &[u64],
     sizes: &[u32],
@@ -89,11 +89,12 @@ fn planned(
         allowance: heap.settings.allowance,
         words: heap.words,
     };
-    let objects = OpaqueObjects::new(alloc, numbers, live, sizes)?;
-    let slide = Slide::plan(alloc, objects)?;
+    let objects = OpaqueObjects::new(numbers, live, sizes)?;
+    let slide = Slide::plan(alloc, &objects)?;
     let part = Part {
         share: None,
         slide: Some(PlannedSlide::new(slide)),
+        marking: None,
         origin: Origin::Planned,
     };
     Ok(Box::new(alloc, part)?)
@@ -145,12 +146,13 @@ fn share_plan(alloc: Global, part: &mut Box<Part, Global>) -> Result<Box<Part, G
     let other = Part {
         share: None,
         slide: Some(other?),
+        marking: None,
         origin: Origin::Planned,
     };
     Ok(Box::new(alloc, other)?)
 }
 
-/// Forgets the planned slide of a handle, if it has one. Returns 0, or 12 if the handle has a worker's part, and then keeps it.
+/// Forgets the planned slide or the marking of a handle, if it has one. Returns 0, or 12 if the handle has a worker's part, and then keeps it.
 #[unsafe(no_mangle)]
 pub extern "C" fn pcompact_forget(alloc: Global, plan: &mut PcompactHandle) -> u32
     ensures gone { result ≡ 0 → plan.new.2 ≡ None }

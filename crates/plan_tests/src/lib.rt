@@ -1,4 +1,4 @@
-//! Tests of the public calls of `summary`.
+//! Tests of the public calls of `summary` and `coded_redirection`.
 //!
 //! They are in a crate of their own so that checking them doesn't prove `summary` again.
 #![tactic(auto)]
@@ -7,6 +7,8 @@
 mod addresses;
 #[cfg(test)]
 mod checks;
+#[cfg(test)]
+mod coded_references;
 #[cfg(test)]
 mod known_heaps;
 #[cfg(test)]

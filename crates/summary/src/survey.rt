@@ -52,7 +52,7 @@ impl Survey {
     /// The only error is [`Fault::Memory`], if an allocation fails.
     pub fn of_objects<S: Surveyor>(
         alloc: Global,
-        objects: &OpaqueObjects,
+        objects: &OpaqueObjects<'_>,
         surveyor: &S,
     ) -> Result<Survey, Fault>
         requires { S.may_start }

@@ -47,6 +47,7 @@ use Rattle.claim_board.specs.contracts.regions.holding.Holding as Holding
 use Rattle.claim_board.specs.contracts.rule.view.View as View
 use Rattle.claim_board.proofs.regions.holding.Holding.TheSendSync as holding
 use Rattle.atomic_table.proofs.shared.Seat.TheSendSync as seats
+use Rattle.coded_marking.specs.contracts.marking.Marking as Marking
 use Rattle.caller_heap.specs.contracts.planned_slide.Owner as Owner
 use Rattle.caller_heap.specs.contracts.planned_slide.PlannedSlide as PlannedSlide
 use Rattle.caller_heap.specs.contracts.part.Part as Part
@@ -190,7 +191,12 @@ owner_send = search (crosses, sendable, slide_send, slide_sync) depth 60 fits 20
 planned_send : IsSend PlannedSlide.the_row
 planned_send = search (crosses, sendable, owner_send) depth 60 fits 20000
 
+-- a marking, which has its bits and its stack
+marking_send : IsSend Marking.the_row
+marking_send = search (crosses, sendable) depth 60 fits 20000
+
 pub part_send : IsSend Part.the_row
 part_send =
     let T = Part.the_type in
-    recorded_send (Struct (declared.shape T)) T.D T.to T.to_one (struct_send (declared.shape T) (search (crosses, sendable, share_send) depth 60 fits 20000, (search (crosses, sendable, planned_send) depth 60 fits 20000, (origin.the_field_send, tt))))
+    let all : AllSend (declared.fields T) = (search (crosses, sendable, share_send) depth 60 fits 20000, (search (crosses, sendable, planned_send) depth 60 fits 20000, (search (crosses, sendable, marking_send) depth 60 fits 20000, (origin.the_field_send, tt)))) in
+    recorded_send (Struct (declared.shape T)) T.D T.to T.to_one (struct_send (declared.shape T) all)

@@ -38,7 +38,7 @@ returns-clause-bits c = λ k inside.
     let rest : length (drop p live) ≡ length live - p = length-drop p live in
     let long : length objects ≡ to - p = length-take (to - p) (drop p live) ∙ omega arith in
     let sound : All (HasSoundHeader image) objects = rw same (All-take (HasSoundHeader image) (to - p) (drop p image.live) (All-drop (HasSoundHeader image) p image.live c.live-objects.ensures.valid.live_list.sound)) in
-    let lasts : take (to - p) c.last_words-lasts.result ≡ map (λ a. end_of image a - 1) objects = ap (λ n. take n c.last_words-lasts.result) (sym long) ∙ c.last_words-lasts.ensures in
+    let lasts : take (to - p) c.last_words-lasts.result ≡ map (λ a. end_of image a - 1) objects = c.last_words-lasts.ensures ∙ ap (λ (l : List ℕ). map (λ a. end_of image a - 1) (take (to - p) (drop p l))) (sym same) in
     let start : p ≡ 64 * c.args.piece = omega arith in
     c.insert_within.ensures.bits k inside
     ∙ ap (λ b. has c.args.ends.now k || b)

@@ -1,0 +1,10 @@
+pub mod Done
+pub mod Words
+pub mod Lists
+pub mod Alike
+pub mod Opaque
+pub mod Redirected
+pub mod Reached
+pub mod Graph
+pub mod Parts
+pub mod Collected

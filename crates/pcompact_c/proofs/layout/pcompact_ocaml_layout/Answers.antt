@@ -1,0 +1,8 @@
+use Rattle.std.proofs.Common.{◌≡◌, ◌∙◌, ℕ, ap, arith}
+use Rattle.object_heap.specs.Layout.{ocaml}
+use Rattle.pcompact_c.proofs.layout.pcompact_ocaml_layout.Goals as goal
+
+pub returns : goal.returns
+returns c fits words =
+    let same : c.min.result ≡ c.args.start = let least = c.min.ensures in omega (arith, least, fits) in
+    c.ocaml.ensures.value words ∙ ap (λ (s : ℕ). ocaml s words) same
