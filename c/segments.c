@@ -86,15 +86,12 @@ pcompact_fault pcompact_share_segments(const pcompact_segments *heap) {
     return fault;
 }
 
-/* Whether a slot leads to a word of some segment. */
-static bool leads_to_some(const pcompact_segments *heap, uint64_t slot) {
-    return (slot - heap->tag) % sizeof(uint64_t) == 0 && leads_into(heap, find_segment(heap, slot), slot);
-}
-
-/* How many of these slots, from the first on, lead to the recent segment or to none. */
+/* How many of these slots, from the first on, lead to the recent segment. */
 static size_t count_recent(const pcompact_segments *heap, const uint64_t *slots, size_t slot_count) {
+    const pcompact_slide *slide = &heap->slides[heap->recent];
+    uint64_t start = (uintptr_t)slide->words + heap->tag, size = slide->word_count * sizeof(uint64_t);
     size_t count = 0;
-    while (count < slot_count && (leads_into(heap, heap->recent, slots[count]) || !leads_to_some(heap, slots[count]))) count++;
+    while (count < slot_count && (slots[count] - start) % sizeof(uint64_t) == 0 && slots[count] - start < size) count++;
     return count;
 }
 
@@ -109,9 +106,11 @@ uint32_t pcompact_redirect_segments(pcompact_segments *heap, size_t worker, uint
     uint32_t how = PCOMPACT_SETTLED;
     for (size_t from = 0, count; from < slot_count && heap->segment_count > 0; from += count) {
         count = 1;
+        if ((slots[from] - heap->tag) % sizeof(uint64_t) != 0) continue;
         if (!leads_into(heap, heap->recent, slots[from])) {
-            if (!leads_to_some(heap, slots[from])) continue;
-            heap->recent = find_segment(heap, slots[from]);
+            size_t found = find_segment(heap, slots[from]);
+            if (!leads_into(heap, found, slots[from])) continue;
+            heap->recent = found;
         }
         count += count_recent(heap, &slots[from + 1], slot_count - from - 1);
         how |= redirect_recent(heap, worker, &slots[from], count);

@@ -1,17 +1,17 @@
 /* The C interface of pcompact, a sliding full collection whose program is proved.
  *
- * Link libpcompact.a. It takes memory by malloc, unless the program defines the three functions of heap.c: any allocator
- * that aligns to 16 bytes and that several threads may call can stand in its place. Each call is proved but pcompact_cut,
- * pcompact_is_live, pcompact_redirect_each, pcompact_mark_each and pcompact_slots_by, those in place, those of several threads over lent words, and those of slides and
- * segments: these are a few lines of C, here, in in_place.c, in lent.c, in slide.c and in segments.c, around calls that are proved,
- * and are only tested.
+ * Link libpcompact.a. It takes memory by malloc, unless the program defines the three functions of heap.c: any allocator that
+ * aligns to 16 bytes and that several threads may call can stand in its place. Each call is proved but pcompact_cut,
+ * pcompact_is_live, pcompact_redirect_each, pcompact_mark_each and pcompact_slots_by, those in place, those of several threads
+ * over lent words, and those of slides and segments: these are a few lines of C, here, in in_place.c, in lent.c, in slide.c and in
+ * segments.c, around calls that are proved, and are only tested.
  *
  * No fault loses a heap: this is proved, but for words that are lent or slid, of which it is only tested. What a caller mixes up
  * of a collection or slide by several threads is fault 12.
  *
  * No call starts a thread or waits, and none keeps state but behind the handles of a collection or slide, so several threads may
- * be in calls at once, each with memory and handles of its own. No call may be made from a signal handler, or in a forked child
- * of a process with threads. */
+ * be in calls at once, each with memory and handles of its own. No call may be made from a signal handler, or in a forked child of
+ * a process with threads. */
 #ifndef PCOMPACT_H
 #define PCOMPACT_H
 
@@ -131,9 +131,9 @@ uint32_t pcompact_collect_lent(pcompact_words *words, size_t region_count, uint6
 uint32_t pcompact_collect_lent_rooted(pcompact_words *words, size_t region_count, uint64_t *roots, size_t root_count,
                                       pcompact_settings settings, pcompact_answer *answer);
 
-/* One worker's part in a collection or slide by several threads, or a slide's plan, or a marking before it, or none. It begins as all zeros; afterwards
- * only the library writes its fields, and nobody copies one that is held or touches what it leads to. One call at a time uses a
- * handle. It may go to another thread by a start or join of a thread, a lock, or an atomic variable. */
+/* One worker's part in a collection or slide by several threads, or a slide's plan, or a marking before it, or none. It begins as
+ * all zeros; afterwards only the library writes its fields, and nobody copies one that is held or touches what it leads to. One
+ * call at a time uses a handle. It may go to another thread by a start or join of a thread, a lock, or an atomic variable. */
 typedef struct pcompact_handle {
     bool is_held;
     void *at;
@@ -264,7 +264,7 @@ uint32_t pcompact_end_in_place(pcompact_handle *handles, size_t worker_count, pc
  *
  * A slide begins as all zeros; afterwards only the library writes its fields, and nobody copies it. One call at a time uses it. */
 typedef struct pcompact_slide {
-    pcompact_handle plan;    /* until the slide begins: for pcompact_new_address, pcompact_is_live and pcompact_redirect alone */
+    pcompact_handle plan;    /* its marking, if it has one, and then its plan, until the slide begins */
     uint64_t *words;         /* the heap */
     size_t word_count;
     uint32_t region_log;
@@ -280,8 +280,8 @@ typedef struct pcompact_slide {
  * Returns the fault: 12 if there is a plan already or the slide has begun, 3 or 4 for the settings and the number of words, which
  * isn't 0, or that of the first object with which something is wrong: 6 with its index out of order or outside of the words, or
  * with its address 7 without a word or beyond the last word, 8 over the object before it. 11 if memory runs out. After a fault all
- * is as it was. Takes about 4 bits for each word until the slide ends. No pointer is null, also with a count of 0, and nobody writes
- * there meanwhile. */
+ * is as it was. Takes about 4 bits for each word until the slide ends. No pointer is null, also with a count of 0, and nobody
+ * writes there meanwhile. */
 pcompact_fault pcompact_plan(uint64_t *words, size_t word_count, const uint64_t *live, const uint32_t *sizes, size_t live_count,
                              pcompact_settings settings, pcompact_slide *slide);
 
@@ -296,8 +296,9 @@ uint32_t pcompact_forget(pcompact_handle *plan);
 /* Begins the slide that is planned, by 1 to 64 workers, and gives each of these handles a worker's part, for pcompact_work or
  * pcompact_work_all. From here to the end only the library uses the words. Returns the fault: 12 if nothing is planned, another
  * handle has the plan too, there aren't 1 to 64 handles or one is held, or 11 if memory runs out. After a fault all is as it was,
- * and planned. Takes the memory of so many workers, 24 bytes for each region, and, where the last region is shorter than the
- * others, the words of one. No pointer is null, and the plan isn't among the handles. */
+ * and planned: what is redirected by then leads to where objects will be, so only another begin makes the heap whole. Takes the
+ * memory of so many workers, 24 bytes for each region, and, where the last region is shorter than the others, the words of one. No
+ * pointer is null, and the plan isn't among the handles. */
 pcompact_fault pcompact_begin_slide(pcompact_slide *slide, pcompact_handle *handles, size_t worker_count);
 
 /* Ends a slide by all its handles, in any order, once no other call uses them: fills what is left to fill. Afterwards the words
@@ -309,18 +310,24 @@ pcompact_fault pcompact_begin_slide(pcompact_slide *slide, pcompact_handle *hand
 uint32_t pcompact_end_slide(pcompact_slide *slide, pcompact_handle *handles, size_t worker_count, bool clears,
                             pcompact_answer *answer);
 
-/* Forgets what is planned or marked, if it is, and frees its memory. Returns 0, or 12 if the slide has begun, which then goes on. */
+/* Forgets what is planned or marked, if it is, and frees its memory. Returns 0, or 12 if the slide has begun, which then goes
+ * on. */
 uint32_t pcompact_forget_slide(pcompact_slide *slide);
 
 /* How a host lays out its objects, in numbers, so that the library can mark them and redirect their references.
  *
  * An object's first word is its header, which has three fields, each by its lowest bit and its number of bits: a size, a type, and
- * a number of references. The size is in units, of which a word has 2 ^ `size_unit`: an object has the whole words of
- * size + `size_more` units, header included. Its references follow the header, and `modes` says of each type how many there are: 0
- * none, 1 all words, 2 as many as the header says. The word `base` + 2 ^ `unit` * a leads to the object at address a; a word that
- * is none of these for an address of the heap leads nowhere, and is never changed.
+ * a number of references. The size is in units, of which a word has 2 ^ `size_unit`: an object has size + `size_more` units,
+ * header included, rounded down to words. So sizes in words have `size_unit` 0 and `size_more` 1, or 0 if they include the header;
+ * sizes in bytes have 3, and 15, which rounds up, or 7. References follow the header, and `modes` says of each type how many there
+ * are: 0 none, 1 all words, 2 as many as the header says.
  *
- * The last two are for the headers of fillers. What is wrong with a layout is fault 18, whose `field` says which rule it breaks:
+ * The word `base` + 2 ^ `unit` * a leads to the object whose header is at address a: where machine addresses lead to first fields,
+ * `base` is the heap's start plus 8, plus a tag. A word that is none of these for an address of the heap leads nowhere, and is
+ * never changed. Marking takes each of the others for a reference to an object's header: none may lead into an object's middle.
+ *
+ * The last two say how a filler would be written, and no call for C writes one: `filler_tag` 0 will do, and for `filler_less` what
+ * `size_more` is, or 8 where that is 15. What is wrong with a layout is fault 18, whose `field` says which rule it breaks:
  *   1 the size is a field of a header: both numbers are below 64, and their sum is at most 64
  *   2 it can count the units of 2147483648 words
  *   3 the type is a field of a header, of at most 8 bits
@@ -336,8 +343,8 @@ typedef struct pcompact_layout {
     uint8_t unit;
     uint64_t size_more;
     uint64_t base;
-    uint64_t filler_tag;  /* the header of a filler, with size 0 */
-    uint64_t filler_less; /* how many units the size of a filler is below those of its words */
+    uint64_t filler_tag;  /* a header with size 0 */
+    uint64_t filler_less; /* how many units that size is below those of its words */
     uint8_t modes[256];
 } pcompact_layout;
 
@@ -348,16 +355,16 @@ pcompact_layout pcompact_scheme48_layout(uintptr_t start);
 /* What is wrong with a layout for a heap of so many words: fault 18, 4 if there are more than 68719476736, or 0. */
 pcompact_fault pcompact_check_layout(const pcompact_layout *layout, uint64_t word_count);
 
-/* Begins to mark the objects of a heap with so many words, by a handle that isn't held, such as a slide's plan. Returns the fault, 12
- * if the handle is held, 4 if the words are too many, or 11 if memory runs out: here it takes all that marking takes, 2 bits for each
- * word and 128 KiB. After a fault all is as it was. */
+/* Begins to mark the objects of a heap with so many words, by a handle that isn't held, such as a slide's plan. Returns the fault,
+ * 12 if the handle is held, 4 if the words are too many, or 11 if memory runs out: here it takes all that marking takes, 2 bits
+ * for each word and 128 KiB. After a fault all is as it was. */
 pcompact_fault pcompact_begin_marking(uint64_t word_count, pcompact_handle *marking);
 
 /* Marks the objects that these roots reach, words in the layout's coding, and what was marked stays marked: so roots can come in
- * batches, and more of them once the host knows what is dead, such as objects with finalisers. Reads nothing of the heap but headers
- * and references of reached objects. Takes no memory. Returns the fault: 12 if the handle has no marking, 4 if it is of another
- * number of words, or 18, and then nothing more is marked; or 7 with the address of an object without a sound header, and then some
- * of what is reached isn't. No pointer is null, also with a count of 0, and nobody writes there meanwhile. */
+ * batches, and more of them once the host knows what is dead, such as objects with finalisers. Reads nothing of the heap but
+ * headers and references of reached objects. Takes no memory. Returns the fault: 12 if the handle has no marking, 4 if it is of
+ * another number of words, or 18, and then nothing more is marked; or 7 with the address of an object without a sound header, and
+ * then some of what is reached isn't. No pointer is null, also with a count of 0, and nobody writes there meanwhile. */
 pcompact_fault pcompact_mark(pcompact_handle *marking, const uint64_t *words, size_t word_count, const pcompact_layout *layout,
                              const uint64_t *roots, size_t root_count);
 
@@ -380,23 +387,24 @@ static inline pcompact_fault pcompact_mark_each(pcompact_handle *marking, const 
 bool pcompact_is_reached(pcompact_handle *marking, uint64_t address);
 
 /* Plans the slide of the objects that the slide's plan has marked, in the heap with these words. From then on the plan answers as
- * after pcompact_plan, and the marking is gone. Returns the fault: 12 if there is no marking, 18, 7 for an object of 2 ^ 32 words or
- * more, or one of pcompact_plan. After a fault all is as it was. Takes 12 bytes for each object until it returns, and about 4 bits
- * for each word until the slide ends. */
+ * after pcompact_plan, and the marking is gone. Returns the fault: 12 if there is no marking, 18, 7 for an object of 2 ^ 32 words
+ * or more, or one of pcompact_plan. After a fault all is as it was. Takes 12 bytes for each object until it returns, and about 4
+ * bits for each word until the slide ends. */
 pcompact_fault pcompact_plan_marked(uint64_t *words, size_t word_count, const pcompact_layout *layout, pcompact_settings settings,
                                     pcompact_slide *slide);
 
 /* Which words of a heap a host hands over. */
 typedef struct pcompact_objects {
-    uint64_t first;      /* the address of the first of them */
-    uint64_t word_count; /* how many words the whole heap has */
+    uint64_t first;      /* the address of the first of them, 0 for the heap's first word */
+    uint64_t heap_words; /* how many words the whole heap has */
     uint64_t dead;       /* what takes the place of a reference that leads to a word that no live object has */
 } pcompact_objects;
 
 /* Redirects the references of the planned objects that begin in these words, where they lie: each that leads to a word of the heap
  * leads to where the slide takes the word, or becomes `dead`. All else stays. To be called once for each object, before the slide
- * begins; several threads may do so at once by shared plans, each with the words from one object's address up to another's. Returns
- * the fault, 12 if nothing is planned, 4 or 18, and then all stay. Takes no memory. */
+ * begins. Several threads may do so at once by shared plans, which are to be forgotten before the begin: each with the words of a
+ * part of the heap, `words` being its first word, from one object's address up to another's or the heap's end. Returns the fault,
+ * 12 if nothing is planned, 4 if the heap has too many words, or 18, and then all stay. Takes no memory. */
 pcompact_fault pcompact_redirect_objects(pcompact_handle *plan, uint64_t *words, size_t word_count, const pcompact_layout *layout,
                                          pcompact_objects objects);
 
@@ -441,8 +449,8 @@ pcompact_fault pcompact_plan_segments(const pcompact_segments *heap, const pcomp
  * planned or a handle is held, or 11 if memory runs out. After a fault all is as it was. */
 pcompact_fault pcompact_share_segments(const pcompact_segments *heap);
 
-/* Redirects slots by a worker's handles, before or after the begin: each that leads to a word of a segment leads to where its slide
- * takes the word, or becomes `dead`. All others stay. Several workers may do so at once, each by its own copy of the struct.
+/* Redirects slots by a worker's handles, before or after the begin: each that leads to a word of a segment leads to where its
+ * slide takes the word, or becomes `dead`. All others stay. Several workers may do so at once, each by its own copy of the struct.
  * Returns PCOMPACT_SETTLED, or PCOMPACT_NOT_HELD if a slot led to a segment whose handle isn't held, and stays. */
 uint32_t pcompact_redirect_segments(pcompact_segments *heap, size_t worker, uint64_t *slots, size_t slot_count);
 
@@ -450,7 +458,8 @@ uint32_t pcompact_redirect_segments(pcompact_segments *heap, size_t worker, uint
  * of pcompact_begin_slide: then the segments before have begun, and another call begins the others. */
 pcompact_fault pcompact_begin_segments(const pcompact_segments *heap);
 
-/* Lets a worker fill regions that are ready, at most `turns` of each segment. Returns what pcompact_work returns, of all of them. */
+/* Lets a worker fill regions that are ready, at most `turns` of each segment. Returns what pcompact_work returns, of all of
+ * them. */
 uint32_t pcompact_work_segments(const pcompact_segments *heap, size_t worker, uint64_t turns);
 
 /* Ends the slides that have begun, and writes the answer of each in its place. Returns the first fault, which is one of

@@ -62,6 +62,7 @@ _pcompact_read() {
                 'timeline --color' | \
                 'upgrade --progress' | \
                 'import --progress' | \
+                'compare --progress' | \
                 'generate --progress') open=$word ;;
             esac
         elif [[ -z $command ]]; then
@@ -90,6 +91,7 @@ _pcompact_takes() {
     timeline) options='--width --svg --html --region-log --allowance --letters --color --no-color --atomic -v --verbose -h --help' most=2 ;;
     upgrade) options='--to --progress --atomic -v --verbose -h --help' most=2 ;;
     import) options='--region-log --allowance --version --live-only --classes --histogram --json --stats --progress --atomic -v --verbose -h --help' most=2 ;;
+    compare) options='--explain --json --progress -v --verbose -h --help' most=2 ;;
     generate) options='--words --live --region-log --seed --refs --version --allowance --progress --atomic -v --verbose -h --help' most=1 ;;
     board) options='--steps -h --help' most=0 ;;
     help) options='' most=1 ;;
@@ -132,6 +134,7 @@ _pcompact_value() {
     'timeline --color') _pcompact_words auto always never ;;
     'upgrade --progress') _pcompact_words auto always never ;;
     'import --progress') _pcompact_words auto always never ;;
+    'compare --progress') _pcompact_words auto always never ;;
     'generate --progress') _pcompact_words auto always never ;;
     *) compopt +o default +o bashdefault 2>/dev/null ;;
     esac
@@ -156,7 +159,7 @@ _pcompact() {
     elif [[ -z $ended && $current = -* ]]; then
         _pcompact_words $left
     elif [[ -z $command || $command = help && $count = 0 ]]; then
-        _pcompact_words collect verify summary order map text assemble record replay timeline upgrade import generate board help
+        _pcompact_words collect verify summary order map text assemble record replay timeline upgrade import compare generate board help
     elif ((count < most)); then
         _pcompact_files
     elif [[ -z $ended ]]; then

@@ -26,12 +26,13 @@ complete -c pcompact -n '__pcompact_is ""' -a replay -d 'Replay a schedule word 
 complete -c pcompact -n '__pcompact_is ""' -a timeline -d 'Draw which worker has which region along the lines of a schedule'
 complete -c pcompact -n '__pcompact_is ""' -a upgrade -d 'Convert a heap image to version 2 or 3, with roots'
 complete -c pcompact -n '__pcompact_is ""' -a import -d 'Convert the heap dump of a Java virtual machine to a heap image'
+complete -c pcompact -n '__pcompact_is ""' -a compare -d 'Compare the heap dumps before and after a collection'
 complete -c pcompact -n '__pcompact_is ""' -a generate -d 'Generate a heap image from a seed, for benchmarks and experiments'
 complete -c pcompact -n '__pcompact_is ""' -a board -d 'Schedule three regions among two workers, and count claims'
 complete -c pcompact -n '__pcompact_is ""' -a help -d 'Print this message or the help of the given subcommand(s)'
 complete -c pcompact -n '__pcompact_is ""' -s h -l help -d 'Print help'
 complete -c pcompact -n '__pcompact_is ""' -s V -l version -d 'Print version'
-complete -c pcompact -n '__pcompact_is help' -a 'collect verify summary order map text assemble record replay timeline upgrade import generate board help'
+complete -c pcompact -n '__pcompact_is help' -a 'collect verify summary order map text assemble record replay timeline upgrade import compare generate board help'
 complete -c pcompact -n '__pcompact_is collect' -F
 complete -c pcompact -n '__pcompact_is collect' -s w -l workers -x -a '(seq 1 64)' -d 'Worker threads, from 1 to 64 (default: the processors)'
 complete -c pcompact -n '__pcompact_is collect' -l region-log -x -a '(seq 3 20)' -d 'Read IMAGE with regions of 2^k words, k from 3 to 20'
@@ -132,6 +133,12 @@ complete -c pcompact -n '__pcompact_is import' -l progress -a 'auto always never
 complete -c pcompact -n '__pcompact_is import' -l atomic -d 'Replace files only once the command has succeeded'
 complete -c pcompact -n '__pcompact_is import' -s v -l verbose -d 'Print details of errors (default; --verbose=never: none)'
 complete -c pcompact -n '__pcompact_is import' -s h -l help -d 'Print help'
+complete -c pcompact -n '__pcompact_is compare' -F
+complete -c pcompact -n '__pcompact_is compare' -l explain -d 'List holes, changed data and conflicts, too'
+complete -c pcompact -n '__pcompact_is compare' -l json -d 'Print a JSON object'
+complete -c pcompact -n '__pcompact_is compare' -l progress -a 'auto always never' -d 'Show progress (or --progress=WHEN: auto, always, never)'
+complete -c pcompact -n '__pcompact_is compare' -s v -l verbose -d 'Print details of errors (default; --verbose=never: none)'
+complete -c pcompact -n '__pcompact_is compare' -s h -l help -d 'Print help'
 complete -c pcompact -n '__pcompact_is generate' -F
 complete -c pcompact -n '__pcompact_is generate' -l words -x -d 'Words of the heap, a multiple of 2^k, at most 2^36'
 complete -c pcompact -n '__pcompact_is generate' -l live -x -d 'Percentage of words in live objects, 0 to 100'

@@ -33,7 +33,7 @@ static size_t collect(void) {
         .filler_tag = TEXT, .filler_less = 1,
     };
     const pcompact_settings settings = {.region_log = 9, .allowance = 0};
-    const pcompact_objects all = {.first = 0, .word_count = top, .dead = 0};
+    const pcompact_objects all = {.first = 0, .heap_words = top, .dead = 0};
     pcompact_slide slide = {.words = NULL};
     pcompact_handle worker = {.at = NULL};
     pcompact_answer answer;

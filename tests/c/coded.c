@@ -109,7 +109,8 @@ uint64_t any_stray(const coded_heap *it) {
     const pcompact_layout *by = &it->layout;
     uint64_t count = it->heap.word_count, step = UINT64_C(1) << by->unit;
     for (;;) {
-        uint64_t beside[] = {0, 2 * any_word() + 1, word_by(by, count), by->base - 1, by->base - step, word_by(by, below(count)) + step / 2};
+        uint64_t between = word_by(by, below(count)) + step / 2;
+        uint64_t beside[] = {0, 2 * any_word() + 1, word_by(by, count), by->base - 1, by->base - step, between};
         uint64_t word = below(2) > 0 ? any_word() : beside[below(6)];
         if (target_by(by, count, word) == UINT64_MAX) return word;
     }

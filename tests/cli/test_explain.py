@@ -14,6 +14,7 @@ sys.dont_write_bytecode = True
 sys.path.insert(0, str(pathlib.Path(__file__).resolve().parents[2]))
 from tests.models.explanation import verified
 from tests.models.image import Collection, Image, decode, encode, header, upgraded
+from tests.support import bugs
 from tests.support.cases import BASE, COMPACTED, MOVED, MOVED_LIVE, image, try_groups, with_word
 from tests.support.program import TOP, Answer, Tried
 from tests.support.terminal import on_terminal
@@ -89,6 +90,27 @@ def try_heaps(tried: Tried) -> None:
         try_bugs(tried, tried.read("heap"))
 
 
+def try_pointing(tried: Tried) -> None:
+    """Each of eighteen bugs, in each version: the place, or what is wrong there, is among the lines."""
+    for version in (1, 2, 3):
+        words = f"generate heap --words 2048 --live 60 --region-log 5 --seed {version} --version {version} --allowance 120"
+        tried.run(words, Answer(0, None))
+        before = tried.read("heap")
+        for bug in bugs.BUGS:
+            heap = bugs.Collected(decode(before), seed=7)
+            pointed = bug(heap)
+            point(tried, f"{bug.__name__}, version {version}", before, heap.text(), pointed)
+        point(tried, f"cut, version {version}", before, *bugs.cut(bugs.Collected(decode(before), seed=7)))
+
+
+def point(tried: Tried, name: str, before: bytes, after: bytes, wanted: list[str]) -> None:
+    """What is said of a bug, beside the model, and whether it has each of these."""
+    try_pair(tried, before, after)
+    lines = answer(verified(before, after)).err
+    if not wanted or [part for part in wanted if part not in lines]:
+        tried.is_wrong(f"{name}: {wanted} isn't all in\n{lines}")
+
+
 def try_terminal(tried: Tried) -> None:
     """On a terminal a difference is explained by itself."""
     tried.write("before", BASE)
@@ -99,7 +121,7 @@ def try_terminal(tried: Tried) -> None:
             tried.is_wrong(f"verify before after {option}, on a terminal: {found}")
 
 
-GROUPS = (try_others, try_broken, try_heaps, try_terminal)
+GROUPS = (try_others, try_broken, try_heaps, try_pointing, try_terminal)
 
 if __name__ == "__main__":
     sys.exit(try_groups(GROUPS))

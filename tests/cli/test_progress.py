@@ -34,6 +34,7 @@ COMMANDS = [
     ("verify base compacted", [], [READ, READ, WORK, WORK]),
     ("upgrade base out", ["out"], [READ, WORK, WRITE]),
     ("import dump out", ["out"], [READ, WORK, READ, WORK, WRITE]),
+    ("compare dump dump", [], [READ, WORK, READ, WORK, READ, WORK, READ, WORK]),
     (f"generate out {SEEDED}", ["out"], [WRITE]),
 ]
 FIGURES = re.compile(r"pcompact: (read|write) (\d+\.\d) (per cent|MiB)(?:, (\d+) MiB a second(?:, (\d+) s left)?)?")

@@ -30,6 +30,7 @@ Commands:
   timeline  Draw which worker has which region along the lines of a schedule
   upgrade   Convert a heap image to version 2 or 3, with roots
   import    Convert the heap dump of a Java virtual machine to a heap image
+  compare   Compare the heap dumps before and after a collection
   generate  Generate a heap image from a seed, for benchmarks and experiments
   board     Schedule three regions among two workers, and count claims
   help      Print this message or the help of the given subcommand(s)
@@ -42,6 +43,7 @@ Exit status:
   0  success, also of help and version
   1  a fault, images that differ, a bad dump or text; standard error says which
   2  invalid usage; standard error says why
+  3  of compare alone: not comparable; its 1 is a broken order or a hole
 """
 
 BOARD_HELP = """\
@@ -324,6 +326,29 @@ Example:
   pcompact import /tmp/heap.hprof heap.pcheap
 """
 
+COMPARE_HELP = """\
+Compare the heap dumps before and after a collection
+
+Usage: pcompact compare [OPTIONS] <BEFORE> <AFTER>
+
+Arguments:
+  <BEFORE>  A heap dump before the collection
+  <AFTER>   A heap dump of the same machine after it
+
+Options:
+      --explain   List holes, changed data and conflicts, too
+      --json      Print a JSON object
+      --progress  Show progress (or --progress=WHEN: auto, always, never)
+  -v, --verbose   Print details of errors (default; --verbose=never: none)
+  -h, --help      Print help
+
+Example:
+  jcmd PID GC.heap_dump -all /tmp/before.hprof
+  jcmd PID GC.run
+  jcmd PID GC.heap_dump -all /tmp/after.hprof
+  pcompact compare /tmp/before.hprof /tmp/after.hprof
+"""
+
 GENERATE_HELP = """\
 Generate a heap image from a seed, for benchmarks and experiments
 
@@ -352,7 +377,7 @@ Example:
 
 NO_COMMAND = """\
 error: 'pcompact' requires a subcommand but one was not provided
-  [subcommands: collect, verify, summary, order, map, text, assemble, record, replay, timeline, upgrade, import, generate, board, help]
+  [subcommands: collect, verify, summary, order, map, text, assemble, record, replay, timeline, upgrade, import, compare, generate, board, help]
 
 Usage: pcompact <COMMAND>
 
@@ -536,6 +561,7 @@ HELPS = [
     ("verify --help", VERIFY_HELP),
     ("upgrade --help", UPGRADE_HELP),
     ("import --help", IMPORT_HELP),
+    ("compare --help", COMPARE_HELP),
     ("generate --help", GENERATE_HELP),
     ("order --help", ORDER_HELP),
     ("text --help", TEXT_HELP),

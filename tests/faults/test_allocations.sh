@@ -151,6 +151,9 @@ each import "$dump" "$room/made/out" --atomic
 each import "$dump" "$room/made/out" --classes "$room/made/list" --histogram 5
 each import "$dump" "$room/made/out" --classes "$room/made/list" --atomic
 each import "$room/cut_dump" "$room/made/out"
+each compare "$dump" "$dump" --explain
+each compare "$dump" "$dump" --json
+each compare "$dump" "$room/cut_dump"
 each generate "$room/made/out" --words 64 --live 50 --region-log 3 --seed 1
 each generate "$room/made/out" --words 64 --live 50 --region-log 4 --seed 1 --version 1
 each generate "$room/made/out" --words 64 --live 50 --region-log 4 --seed 1 --version 3

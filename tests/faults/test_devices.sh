@@ -145,6 +145,8 @@ each import "$dump" "$room/made/out" --live-only
 each import "$dump" "$room/made/out" --version 3
 each import "$dump" "$room/made/out" --classes "$room/made/list" --histogram 5
 each import "$room/cut_dump" "$room/made/out"
+each compare "$dump" "$dump"
+each compare "$dump" "$room/cut_dump"
 each generate "$room/made/out" --words 64 --live 50 --region-log 3 --seed 1
 each generate "$room/made/out" --words 64 --live 50 --region-log 4 --seed 1 --version 1
 each generate "$room/made/out" --words 64 --live 50 --region-log 4 --seed 1 --version 3

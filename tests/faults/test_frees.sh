@@ -113,6 +113,8 @@ each import "$dump" "$room/made" --region-log 3
 each import "$dump" "$room/made" --live-only --atomic
 each import "$dump" "$room/made" --classes "$room/made_schedule" --histogram 5
 each import "$room/cut_dump" "$room/made"
+each compare "$dump" "$dump" --explain
+each compare "$dump" "$room/cut_dump"
 each generate "$room/made" --words 64 --live 50 --region-log 3 --seed 1
 each generate "$room/made" --words 64 --live 50 --region-log 3 --seed 1 --version 1 --atomic
 each generate "$room/made" --words 65 --live 50 --region-log 3 --seed 1

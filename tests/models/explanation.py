@@ -1,7 +1,10 @@
 """A plain model of what `verify --explain` says, made from docs/COMMANDS.md alone."""
+import dataclasses
+import functools
+import itertools
 import struct
 
-from tests.models.image import FRONT, MAGICS, Collection, Fault, Image, decode, references_of, verdict
+from tests.models.image import FRONT, MAGICS, Collection, Fault, Image, decode, references_of, size_of, verdict
 
 
 class Explanation:
@@ -11,6 +14,7 @@ class Explanation:
         self.before, self.after, self.words = before, after, after.words
         self.collection = Collection(before)
         self.expected = self.collection.compaction().words
+        self.ignore_free = ignore_free
         limit = self.collection.top if ignore_free else len(self.words)
         self.others = [p for p in range(limit) if self.words[p] != self.expected[p]]
 
@@ -45,12 +49,67 @@ class Explanation:
             return f", {self.object_name(a)}"
         return f", which is {self.part(found - 1)}"
 
+    def header_name(self, p: int, word: int) -> str:
+        """A word where a header may stand."""
+        size, references, kind = word & 0xFFFFFFFF, word >> 32 & 0xFFFFFF, word >> 56
+        if size == 0 or p + size > len(self.words):
+            return f"{word:016x}"
+        if kind == 1 and references < size:
+            return f"object of {counted(size, 'word')}, {counted(references, 'reference')}"
+        return f"filler of {counted(size, 'word')}" if (kind, references) == (2, 0) else f"{word:016x}"
+
+    def origin(self, p: int) -> str:
+        """Where the word that was found stands, too."""
+        found, a, new = self.words[p], self.object_at(p), self.collection.new
+        if found == 0:
+            return ""
+        if self.before.words[p] == found:
+            return ", the word that was here before"
+        if a is None:
+            return ""
+        ends = {b: place + size_of(self.before.words[b]) for b, place in new.items()}
+        for b in sorted(new):
+            touches, q = ends[b] == new[a] or new[b] == ends[a], new[b] + p - new[a]
+            if touches and q < ends[b] and self.expected[q] == found:
+                return f", as {self.object_name(b)} has it"
+        return ""
+
     def line(self, p: int) -> str:
         expected, found, part = self.expected[p], self.words[p], self.part(p)
-        if not part.startswith("field"):
-            return f"word {p} is {part}, expected {expected:016x}, found {found:016x}"
-        was = self.before.words[self.collection.origins[p]]
-        return f"word {p} is {part}, expected {named(expected)}, found {named(found)}{self.lead(was, found)}"
+        if part.startswith("field"):
+            lead = self.lead(self.before.words[self.collection.origins[p]], found)
+            origin = "" if lead == ", the old address" else self.origin(p)
+            return f"word {p} is {part}, expected {named(expected)}, found {named(found)}{lead}{origin}"
+        name = (lambda word: f"{word:016x}") if part.startswith("data") else functools.partial(self.header_name, p)
+        return f"word {p} is {part}, expected {name(expected)}, found {name(found)}{self.origin(p)}"
+
+    def range_line(self) -> str:
+        """How many words differ, from where to where."""
+        if len(self.others) < 2:
+            return f"1 word differs, at {self.others[0]}, in region {self.region(self.others[0])}" if self.others else "no word differs"
+        first, last = self.others[0], self.others[-1]
+        low, high = self.region(first), self.region(last)
+        return f"{len(self.others)} words differ, from {first} to {last}, in region{f's {low} to {high}' if low < high else f' {low}'}"
+
+    def region(self, p: int) -> int:
+        return p >> self.before.region_log
+
+    def prefix_lines(self) -> list[str]:
+        """The line of another prefix by which the words would be right. Heaps of more than 65,536 words here have none."""
+        if not self.others or len(self.words) > 65_536:
+            return []
+        for allowance in sorted(set(self.dead_below())):
+            collection = Collection(dataclasses.replace(self.before, allowance=allowance))
+            limit = collection.top if self.ignore_free else len(self.words)
+            if collection.prefix_end != self.collection.prefix_end and collection.compaction().words[:limit] == self.words[:limit]:
+                return [f"the prefix should end at {self.collection.prefix_end}, not at {collection.prefix_end}"]
+        return []
+
+    def dead_below(self) -> list[int]:
+        """The number of dead words below each region."""
+        size = 1 << self.before.region_log
+        dead = [0, *itertools.accumulate(p not in self.collection.owner for p in range(len(self.words)))]
+        return dead[::size]
 
     def live_lines(self) -> list[str]:
         """The line of the first live address that differs, where AFTER lists them."""
@@ -69,7 +128,11 @@ class Explanation:
         return lines[:1]
 
     def lines(self) -> list[str]:
-        return [f"words that differ {len(self.others)}", *map(self.line, self.others[:10]), *self.live_lines(), *self.root_lines()]
+        return [self.range_line(), *self.prefix_lines(), *map(self.line, self.others[:10]), *self.live_lines(), *self.root_lines()]
+
+
+def counted(count: int, name: str) -> str:
+    return f"{count} {name}{'' if count == 1 else 's'}"
 
 
 def named(reference: int) -> str:
@@ -103,6 +166,9 @@ def verified(before: bytes, after: bytes, ignore_free: bool = False) -> list[str
     except Fault as fault:
         told = [f"fault {fault}", *told]
         magic, log, count, length, allowance = FRONT.unpack_from(after)
+        wanted = FRONT.size + 8 * (length + count)
+        if len(after) < wanted:
+            return [*told, f"the image has {len(after)} of {wanted} bytes"]
         numbers = list(struct.unpack_from(f"<{length + count}Q", after, FRONT.size))
         found = Image(MAGICS[magic], log, allowance, numbers[:length], numbers[length:])
         name, expected = ("roots", len(was.roots())) if found.version != 1 else ("live objects", len(was.live()))

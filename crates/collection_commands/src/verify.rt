@@ -54,20 +54,19 @@ where
 }
 
 /// The failure of a comparison, with lines that explain it if they are wanted.
-fn trouble<'a, R: AllocGlobal + Threads + Sync, F: FileExt + Sync + Drop>(
+fn trouble<'a, R: AllocGlobal + Threads + Sync, F: OpenFile + FileExt + Sync + Drop>(
     rt: &R,
     refused: Refused,
     before: &Watched<'a, F>,
     after: &Watched<'a, F>,
     wishes: Wishes,
 ) -> Trouble {
-    let lines = match &refused.was {
-        Some(was) if wishes.explain => {
-            explanation_of_file(rt, was, after.file(), wishes.ignore_free)
-        }
-        _ => None,
+    let Refused { why, was } = refused;
+    let lines = match was {
+        Some(was) if wishes.explain => explanation_of_file(rt, was, after, wishes.ignore_free),
+        _other => None,
     };
-    trouble_of(refused.why, before, after).explained(lines)
+    trouble_of(why, before, after).explained(lines)
 }
 
 /// What the command prints of a comparison, or the difference that was found in this file.
@@ -185,7 +184,7 @@ pub fn verify_images<H: AllocGlobal + Threads + Clock + Sync, R: Intake, S: Inta
         Err(fault) => return Err(refusal(Unverified::Neither(fault), None)),
     };
     let explanation = if wishes.explain && verdict != Verdict::Same {
-        explanation_of_images(alloc, &was, &is, wishes.ignore_free, rt).ok()
+        explanation_of_images(alloc, was, &is, wishes.ignore_free, rt).ok()
     } else {
         None
     };

@@ -3,7 +3,8 @@ ghost use Rattle.std.specs.Prelude.{◌<◌};
 
 use crate::checks::equal_at;
 use collector::{
-    ExplainedWord, Found, Lead, OtherLive, OtherRoot, Verdict, explain, verify, verify_below_top,
+    ExplainedWord, Found, Lead, Moved, OtherLive, OtherRoot, Verdict, explain, verify,
+    verify_below_top,
 };
 use heap_image::{Fault, Image, all_processors, decode};
 use heap_samples::{
@@ -13,6 +14,7 @@ use heap_samples::{
 use std::alloc::Global;
 use std::test::Fail;
 use std::thread::Threads;
+use verification::{Origin, OtherPrefix, other_prefix};
 
 /// The number of words that differ, the first of them, and the first live address and root that differ.
 #[derive(Debug, Clone, Copy, PartialEq, Eq)]
@@ -131,6 +133,85 @@ fn words_above_the_top_are_passed_over(rt: HostRuntime) -> Result<(), Fail> {
     for (i, (words, want)) in rows.iter().enumerate() {
         let found = verdicts(rt.alloc(), words, &rt)?;
         equal_at(&rt, found, *want, i as u64);
+    }
+    Ok(())
+}
+
+/// Where this word stands, too, if it is found at this address in place of that of the compaction.
+fn origin_at(
+    alloc: Global,
+    address: usize,
+    word: u64,
+    threads: &(impl Threads + Sync),
+) -> Result<Option<Origin>, Fail>
+    requires { address < 32 }
+{
+    let settings = Settings::of_base(0);
+    let before = image_of(alloc, settings, &BASE_WORDS, &BASE_LIVE, threads)?;
+    let words = with_word(address, word);
+    let after = image_of(alloc, settings, &words, &MOVED_LIVE, threads)?;
+    let heap = after.heap();
+    let found = Found {
+        heap: &heap,
+        live: after.live(),
+        roots: after.roots(),
+    };
+    let differences = differences_of(alloc, &before, found, threads)?;
+    match differences {
+        Some(
+            Differences {
+                first: Some(first),
+                ..
+            },
+        ) => Ok(first.origin),
+        _ => Ok(None),
+    }
+}
+
+#[test]
+fn origins_are_told(rt: HostRuntime) -> Result<(), Fail> {
+    let first = Moved { old: 0, new: 0 };
+    let rows = [
+        (BASE_WORDS[5], Some(Origin::Before)),
+        (MOVED_WORDS[2], Some(Origin::Neighbour(first))),
+        (77, None),
+    ];
+    for (i, (word, want)) in rows.iter().enumerate() {
+        let origin = origin_at(rt.alloc(), 5, *word, &rt)?;
+        equal_at(&rt, origin, *want, i as u64);
+    }
+    Ok(())
+}
+
+/// The prefix that these words of the base heap's compaction have in place of the right one.
+fn prefix_of(
+    alloc: Global,
+    allowance: u64,
+    words: &[u64],
+    threads: &(impl Threads + Sync),
+) -> Result<Option<OtherPrefix>, Fail> {
+    let settings = Settings::of_base(allowance);
+    let before = image_of(alloc, settings, &BASE_WORDS, &BASE_LIVE, threads)?;
+    let after = image_of(alloc, settings, words, &MOVED_LIVE, threads)?;
+    let verifier = all_processors(threads);
+    Ok(other_prefix(alloc, before, &after.heap(), false, &verifier)?)
+}
+
+#[test]
+fn another_prefix_is_found(rt: HostRuntime) -> Result<(), Fail> {
+    let other = OtherPrefix {
+        expected: 8,
+        found: 0,
+    };
+    let spoiled = with_word(5, 77);
+    let rows = [
+        (2, MOVED_WORDS, Some(other)),
+        (0, MOVED_WORDS, None),
+        (2, spoiled, None),
+    ];
+    for (i, (allowance, words, want)) in rows.iter().enumerate() {
+        let prefix = prefix_of(rt.alloc(), *allowance, words, &rt)?;
+        equal_at(&rt, prefix, *want, i as u64);
     }
     Ok(())
 }

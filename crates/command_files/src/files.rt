@@ -196,6 +196,7 @@ where
         schedule: None,
         stats: None,
         room: None,
+        status: 0,
     })
 }
 

@@ -20,6 +20,8 @@ pub struct WorkDone<'a> {
     pub stats: Option<Stats>,
     /// Room for the text as an object, if that may be longer than a line.
     pub room: Option<Vec<u8>>,
+    /// The exit status by which the command gives a verdict, or 0.
+    pub status: u8,
 }
 
 impl<'a> WorkDone<'a> {
@@ -33,6 +35,7 @@ impl<'a> WorkDone<'a> {
             schedule: None,
             stats: None,
             room: None,
+            status: 0,
         }
     }
 
@@ -49,6 +52,14 @@ impl<'a> WorkDone<'a> {
         ensures { result.text ≡ self.entry.text }
     {
         self.room = room;
+        self
+    }
+
+    /// Adds the exit status of a verdict.
+    pub fn with_status(mut self, status: u8) -> WorkDone<'a>
+        ensures { result.text ≡ self.entry.text }
+    {
+        self.status = status;
         self
     }
 

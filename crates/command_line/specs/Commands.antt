@@ -103,6 +103,12 @@ import_words =
     (new_app (codes "import")) (file_rule (codes "DUMP"))) (file_rule (codes "IMAGE"))) region_log_rule) allowance_rule) rooted_version_rule)
     (flag_rule (codes "live-only"))) classes_rule) histogram_rule) json_rule) stats_rule) progress_rule) atomic_rule) verbose_rule
 
+-- the definition of `compare`
+abbrev pub compare_words : App
+compare_words =
+    with_rule (with_rule (with_rule (with_rule (with_rule (with_rule (new_app (codes "compare")) (file_rule (codes "BEFORE")))
+    (file_rule (codes "AFTER"))) (flag_rule (codes "explain"))) json_rule) progress_rule) verbose_rule
+
 -- the required option `--words`, with a number from 1 to 68719476736
 abbrev pub words_rule : Rule
 words_rule = record (new_rule (codes "words")) {
@@ -201,6 +207,7 @@ listed =
     ∷ timeline_words
     ∷ upgrade_words
     ∷ import_words
+    ∷ compare_words
     ∷ generate_words
     ∷ board_words
     ∷ []

@@ -2,7 +2,7 @@ use Rattle.std.specs.Prelude.{◌≡◌, ⊤, ℕ, Bool, Option, None, codes, fa
 use Rattle.clap.specs.Walk.{Text as Name}
 use Rattle.command_line.specs.declared.commands.import.Import.{Import as ImportCall}
 use Rattle.command_line.specs.declared.request.Request.{Request}
-use Rattle.command_line.specs.declared.request.Request.TheVariants.{Board, BoardSteps, Summary, Collect, Verify, Record, Replay, Upgrade, Import, Generate, Order, Text, Assemble, Map, Timeline, Show}
+use Rattle.command_line.specs.declared.request.Request.TheVariants.{Board, BoardSteps, Summary, Collect, Verify, Record, Replay, Upgrade, Import, Compare, Generate, Order, Text, Assemble, Map, Timeline, Show}
 use Rattle.command_line.specs.declared.unread.Unread.{Unread}
 use Rattle.command_line.specs.declared.unread.Unread.TheVariants.{Usage, NoCommand, Memory}
 
@@ -17,6 +17,7 @@ IsFor name (Record call) = name ≡ codes "record"
 IsFor name (Replay call) = name ≡ codes "replay"
 IsFor name (Upgrade call) = name ≡ codes "upgrade"
 IsFor name (Import call) = name ≡ codes "import"
+IsFor name (Compare call) = name ≡ codes "compare"
 IsFor name (Generate call) = name ≡ codes "generate"
 IsFor name (Order call) = name ≡ codes "order"
 IsFor name (Text call) = name ≡ codes "text"

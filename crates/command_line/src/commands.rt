@@ -10,6 +10,7 @@ ghost use Rattle.command_line.specs.Request.{IsFor, IsNoUsage};
 pub(crate) mod assemble;
 pub(crate) mod board;
 pub(crate) mod collect;
+pub(crate) mod compare;
 pub(crate) mod generate;
 pub(crate) mod import;
 pub(crate) mod map;
@@ -28,6 +29,7 @@ use crate::unread::Unread;
 use assemble::Assemble;
 use clap::{ArgMatches, Command};
 use collect::Collect;
+use compare::Compare;
 use generate::Generate;
 use import::Import;
 use map::Map;
@@ -47,7 +49,8 @@ const STATUSES: &str = "\
 Exit status:
   0  success, also of help and version
   1  a fault, images that differ, a bad dump or text; standard error says which
-  2  invalid usage; standard error says why";
+  2  invalid usage; standard error says why
+  3  of compare alone: not comparable; its 1 is a broken order or a hole";
 
 /// The definition of the program and its commands.
 pub fn words<'a>(alloc: Global) -> Result<Command<'a>, AllocError>
@@ -57,7 +60,7 @@ pub fn words<'a>(alloc: Global) -> Result<Command<'a>, AllocError>
 }
 
 /// The definitions of the commands, in the order of help.
-fn definitions() -> [Definition; 14]
+fn definitions() -> [Definition; 15]
     ensures { map app_in result ≡ listed }
 {
     [
@@ -73,6 +76,7 @@ fn definitions() -> [Definition; 14]
         timeline::DEFINITION,
         upgrade::DEFINITION,
         import::DEFINITION,
+        compare::DEFINITION,
         generate::DEFINITION,
         board::DEFINITION,
     ]
@@ -136,6 +140,7 @@ fn parse_command<'a>(name: &str, matches: &ArgMatches<'a>) -> Option<Request<'a>
         "timeline" => Timeline::request(matches),
         "upgrade" => Upgrade::request(matches),
         "import" => Import::request(matches),
+        "compare" => Compare::request(matches),
         "generate" => Generate::request(matches),
         _ => None,
     }

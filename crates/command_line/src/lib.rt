@@ -33,6 +33,7 @@ mod usage_text;
 pub use commands::assemble::{Assemble, lines_call_assemble};
 pub use commands::board::line_calls_board;
 pub use commands::collect::{Collect, lines_call_collect};
+pub use commands::compare::{Compare, lines_call_compare};
 pub use commands::generate::{Generate, lines_call_generate};
 pub use commands::import::{Import, lines_call_import};
 pub use commands::map::{Look, Map, lines_call_map};

@@ -2,6 +2,7 @@
 use crate::beginning::have_beginning;
 use crate::commands::assemble::Assemble;
 use crate::commands::collect::Collect;
+use crate::commands::compare::Compare;
 use crate::commands::generate::Generate;
 use crate::commands::import::Import;
 use crate::commands::map::Map;
@@ -28,6 +29,7 @@ pub enum Request<'a> {
     Replay(Replay<'a>),
     Upgrade(Upgrade<'a>),
     Import(Import<'a>),
+    Compare(Compare<'a>),
     Generate(Generate<'a>),
     Order(Order<'a>),
     Text(Text<'a>),
@@ -39,7 +41,7 @@ pub enum Request<'a> {
 }
 
 impl<'a> Request<'a> {
-    ghost use Rattle.std.specs.Prelude.{◌≡◌, ◌≢◌, codes, None, ℕ, List, IsTrue};
+    ghost use Rattle.std.specs.Prelude.{◌≡◌, ◌≢◌, codes, false, None, ℕ, List, IsTrue};
     ghost use Rattle.command_line.specs.CommandLine.{HaveBeginning};
     ghost use Rattle.command_line.specs.Request.{IsFor, asks_json, asks_stats, asks_steps, rows_of};
 
@@ -86,6 +88,17 @@ impl<'a> Request<'a> {
             Request::Verify(call) => call.json,
             Request::Import(call) => call.json,
             Request::Order(call) => call.json,
+            _ => false,
+        }
+    }
+
+    /// Whether the exit status of a good call may be other than 0. Only that of `compare` may be.
+    pub fn gives_verdict(&self) -> bool
+        ensures compare { IsTrue result → IsFor (codes "compare") self.now }
+        ensures board { IsFor (codes "board") self.now → result ≡ false }
+    {
+        match self {
+            Request::Compare(_) => true,
             _ => false,
         }
     }

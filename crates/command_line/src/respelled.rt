@@ -87,8 +87,8 @@ fn spell_plainly(
 }
 
 /// The commands that show progress.
-const SHOWING: [&str; 7] = [
-    "collect", "verify", "record", "replay", "upgrade", "import", "generate",
+const SHOWING: [&str; 8] = [
+    "collect", "verify", "record", "replay", "upgrade", "import", "compare", "generate",
 ];
 
 /// When progress is shown, by the words of a line. A command without the option `--progress` never shows it.

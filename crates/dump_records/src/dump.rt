@@ -6,6 +6,7 @@ pub(crate) mod contents;
 pub(crate) mod field_type;
 pub(crate) mod record;
 pub(crate) mod record_visitor;
+pub(crate) mod root_place;
 pub(crate) mod window;
 
 use crate::error::{ImportError, Problem};
@@ -14,6 +15,7 @@ use field_type::{FieldType, IdSize};
 use heap_image::Intake;
 use record::{Elements, ObjectKind, ObjectRecord, Record};
 use record_visitor::RecordVisitor;
+use root_place::RootPlace;
 use window::Window;
 
 /// The number of bytes before the first record: the name of the format, the size of ids, and the time.
@@ -54,6 +56,8 @@ pub struct Dump {
     in_heap: bool,
     /// The offset in the dump of the last record of the heap, in bytes.
     at: u64,
+    /// Where the last root was found.
+    place: RootPlace,
 }
 
 impl Dump {
@@ -89,12 +93,18 @@ impl Dump {
             stage: Stage::Before,
             in_heap: false,
             at,
+            place: RootPlace::NONE,
         })
     }
 
     /// The size of ids.
     pub fn ids(&self) -> IdSize {
         self.ids
+    }
+
+    /// Where the last root of the heap is held.
+    pub fn root_place(&self) -> RootPlace {
+        self.place
     }
 
     /// An error at the last record of the heap.
@@ -200,7 +210,7 @@ impl Dump {
         let Some(head) = head_of(tag, self.ids.bytes()) else {
             return Err(self.problem(Problem::HeapTag(tag)));
         };
-        let [id, _, third, fourth] = self.window.numbers(source, head)?;
+        let [id, second, third, fourth] = self.window.numbers(source, head)?;
         let kind = match tag {
             0x20 => ObjectKind::Class,
             0x21 => ObjectKind::Instance {
@@ -212,7 +222,10 @@ impl Dump {
                 contents: Contents::of_references(as_u32(third)),
             },
             0x23 => self.primitives(as_u32(third), as_u8(fourth))?,
-            _ => return Ok(Record::Root { id }),
+            _ => {
+                self.place = RootPlace::of(tag, second);
+                return Ok(Record::Root { id });
+            }
         };
         Ok(Record::Object(ObjectRecord { id, kind }))
     }

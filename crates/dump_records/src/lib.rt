@@ -15,5 +15,6 @@ pub use dump::contents::Contents;
 pub use dump::field_type::{FieldType, IdSize};
 pub use dump::record::{Elements, ObjectKind, ObjectRecord, Record};
 pub use dump::record_visitor::RecordVisitor;
+pub use dump::root_place::RootPlace;
 pub use dump::window::Window;
 pub use error::{ImportError, Problem};

@@ -1,5 +1,6 @@
 pub mod Assemble
 pub mod Board
+pub mod Compare
 pub mod Generate
 pub mod Histogram
 pub mod Import

@@ -11,7 +11,7 @@ ghost use Rattle.command_support.specs.Failure.{failed_device};
 
 pub mod histogram;
 mod import_ending;
-mod import_files;
+pub(crate) mod import_files;
 pub mod object_list;
 
 use crate::shared::live_share::live_share;

@@ -18,6 +18,7 @@
 
 pub mod assemble;
 pub mod board;
+pub mod compare;
 pub mod generate;
 pub mod import;
 pub mod map;

@@ -6,6 +6,7 @@ use Rattle.collection_commands.specs.Record.{record_command}
 use Rattle.collection_commands.specs.Verify.{verify_command}
 use Rattle.heap_commands.specs.Assemble.{assemble_command}
 use Rattle.heap_commands.specs.Board.{board_command}
+use Rattle.heap_commands.specs.Compare.{compare_command}
 use Rattle.heap_commands.specs.Generate.{generate_command}
 use Rattle.heap_commands.specs.Import.{import_command}
 use Rattle.heap_commands.specs.Map.{map_command}
@@ -31,6 +32,7 @@ all_commands =
     ∷ timeline_command
     ∷ upgrade_command
     ∷ import_command
+    ∷ compare_command
     ∷ generate_command
     ∷ board_command
     ∷ []

@@ -3,6 +3,7 @@
 ghost use Rattle.std.specs.Prelude.{◌≡◌, codes, ℕ, List};
 ghost use Rattle.heap_commands.specs.Assemble.{IsCountLine};
 ghost use Rattle.heap_commands.specs.Board.{IsBoard};
+ghost use Rattle.heap_commands.specs.Compare.{IsCompared};
 ghost use Rattle.heap_commands.specs.Generate.{IsGenerationLine};
 ghost use Rattle.heap_commands.specs.Import.{IsImported};
 ghost use Rattle.heap_commands.specs.Map.{IsMap};
@@ -54,6 +55,11 @@ pub fn upgrade_prints_a_root_count()
 /// `import` prints the figures of some valid image with roots, alone or with the histogram of its classes.
 pub fn import_prints_figures()
     ensures prints { (text : List ℕ) → IsPrintedBy (codes "import") text → IsImported text }
+{}
+
+/// `compare` prints the report of a comparison of some two graphs.
+pub fn compare_prints_a_report()
+    ensures prints { (text : List ℕ) → IsPrintedBy (codes "compare") text → IsCompared text }
 {}
 
 /// `generate` prints the figures of some valid image.

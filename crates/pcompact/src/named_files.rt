@@ -17,6 +17,9 @@ pub fn named_files<'a>(request: &Request<'a>) -> NamedFiles<'a> {
         Request::Verify(call) => {
             NamedFiles::two((Role::Before, call.before), (Role::After, call.after))
         }
+        Request::Compare(call) => {
+            NamedFiles::two((Role::Before, call.before), (Role::After, call.after))
+        }
         Request::Replay(call) => {
             NamedFiles::two((Role::Image, call.image), (Role::Schedule, call.schedule))
         }

@@ -1,5 +1,5 @@
 //! The whole program, over any two writers.
-ghost use Rattle.std.specs.Prelude.{◌≡◌, ◌≢◌, ◌≤◌, ◌∷◌, ◌⊎◌, [], codes, map, string_bytes, ℕ, Bool, List, Option, None, IfOk, OnOk, IfErr, IfSome, IsTrue};
+ghost use Rattle.std.specs.Prelude.{◌≡◌, ◌≢◌, ◌≤◌, ◌∷◌, ◌⊎◌, [], codes, false, map, string_bytes, ℕ, Bool, List, Option, None, IfOk, OnOk, IfErr, IfSome, IsTrue};
 ghost use Rattle.command_line.specs.Request.{IsFor, IsNoUsage, asks_steps, rows_of};
 ghost use Rattle.heap_commands.specs.Board.{IsBoardShown};
 ghost use Rattle.heap_commands.specs.Import.{IsImportText};
@@ -53,7 +53,8 @@ pub fn run<R: Files + AllocGlobal + Threads + Wait + Clock + Sync, A: Write, B: 
 ) -> u8
 where
     R::File: FileExt + SystemFile + Sync,
-    ensures status { result ≤ 2 }
+    ensures status { result ≤ 3 }
+    ensures verdict { result ≡ 3 → HaveWord (codes "compare") words.now }
     ensures good { result ≡ 0 → (err.new ≡ err.old) ⊎ HaveWord (codes "--stats") words.now }
     ensures usage { result ≡ 2 → out.new ≡ out.old }
     ensures board_is_known { AreWords words.now (codes "board" ∷ []) → result ≤ 1 }
@@ -104,6 +105,8 @@ struct Manner {
     measured: bool,
     /// Whether an object is printed in place of the text.
     json: bool,
+    /// Whether the exit status may give a verdict.
+    judged: bool,
 }
 
 impl Manner {
@@ -112,12 +115,14 @@ impl Manner {
     fn of(words: &[String], request: &Request<'_>, screen: Screen) -> Manner
         ensures stats { IsTrue result.measured → HaveWord (codes "--stats") words.now }
         ensures json { IsTrue result.json → HaveWord (codes "--json") words.now }
+        ensures judged { IsTrue result.judged → HaveWord (codes "compare") words.now }
     {
         Manner {
             screen,
             details: true,
             measured: have_word(words, "--stats") && request.asks_stats(),
             json: have_word(words, "--json") && request.asks_json(),
+            judged: have_word(words, "compare"),
         }
     }
 }
@@ -132,7 +137,8 @@ fn carry_out<R: Files + AllocGlobal + Threads + Wait + Clock + Sync, A: Write, B
 ) -> u8
 where
     R::File: FileExt + SystemFile + Sync,
-    ensures status { result ≤ 2 }
+    ensures status { result ≤ 3 }
+    ensures verdict { result ≡ 3 → IsTrue manner.judged }
     ensures good { result ≡ 0 → (err.new ≡ err.old) ⊎ IsTrue manner.measured }
     ensures usage { result ≡ 2 → out.new ≡ out.old }
     ensures board_is_known { IsFor (codes "board") request.entry → result ≤ 1 }
@@ -150,6 +156,7 @@ where
     if !manner.screen.is_open {
         return report(&unprinted(&closed()), named, err);
     }
+    let judged = manner.judged && request.gives_verdict();
     let done = match answer(rt, manner, request) {
         Ok(done) => done,
         Err(trouble) => {
@@ -157,14 +164,26 @@ where
             return report(&trouble, named, err);
         }
     };
-    let stats = done.stats;
+    let (stats, status) = (done.stats, status_after(judged, done.status));
     if let Err(trouble) = finish(rt, done, out) {
         return report(&trouble, named, err);
     }
     if manner.measured {
         report_stats(rt, stats, err);
     }
-    0
+    status
+}
+
+/// The exit status of a command that has printed its text: 0, or 1 or 3 where it gives such a verdict.
+fn status_after(is_judged: bool, status: u8) -> u8
+    ensures within { result ≤ 3 }
+    ensures good { is_judged ≡ false → result ≡ 0 }
+    ensures no_usage { result ≢ 2 }
+{
+    match status {
+        1 | 3 if is_judged => status,
+        _ => 0,
+    }
 }
 
 /// Runs a command and returns its text; prints nothing. The text is an object if the manner says so. Room for it is allocated
@@ -262,7 +281,8 @@ fn run_respelled<R: Files + AllocGlobal + Threads + Wait + Clock + Sync, A: Writ
 ) -> u8
 where
     R::File: FileExt + SystemFile + Sync,
-    ensures status { result ≤ 2 }
+    ensures status { result ≤ 3 }
+    ensures verdict { result ≡ 3 → HaveWord (codes "compare") spelled.now.words.now }
     ensures good { result ≡ 0 → (err.new ≡ err.old) ⊎ HaveWord (codes "--stats") spelled.now.words.now }
     ensures usage { result ≡ 2 → out.new ≡ out.old }
     ensures prints { (name : List ℕ) → AreCallOf name spelled.now.line.words.items → result ≡ 0
@@ -391,7 +411,8 @@ fn show<A: Write>(text: &[u8], out: &mut A) -> io::Result<()>
 /// Prints to `err` why the program fails, with details if there are the names of files for these and that was written, and
 /// returns the exit status: 2 for wrong usage, else 1. The status doesn't depend on whether the writes succeed.
 pub fn report<B: Write>(trouble: &Trouble, named: Option<NamedFiles<'_>>, err: &mut B) -> u8
-    ensures { result ≡ status_of trouble.now.failure }
+    ensures status { result ≡ status_of trouble.now.failure }
+    ensures within { result ≤ 2 }
 {
     let written = match &trouble.failure {
         Failure::Usage(text) => err.write_all(text.as_bytes()),

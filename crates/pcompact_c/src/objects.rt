@@ -22,7 +22,7 @@ pub struct PcompactObjects {
     /// The address of the first of them.
     pub first: u64,
     /// The number of words of the whole heap.
-    pub word_count: u64,
+    pub heap_words: u64,
     /// What takes the place of a reference that leads to a word that no live object has.
     pub dead: u64,
 }
@@ -42,11 +42,11 @@ pub extern "C" fn pcompact_redirect_objects(
 ) -> PcompactFault
     ensures part { plan.new.2 ≡ plan.old.2 }
     ensures redirected { result.number ≡ 0 → (image : HeapImage) × (plan_in plan.old ≡ Some image)
-        × (words.new ≡ redirected_words image (coding_of layout.now objects.word_count) objects.first words.old objects.dead) }
+        × (words.new ≡ redirected_words image (coding_of layout.now objects.heap_words) objects.first words.old objects.dead) }
     ensures kept { 0 < result.number → words.new ≡ words.old }
-    ensures fault { 0 < result.number → IsLayoutFault layout.now objects.word_count result ⊎ IsOf Workers result }
+    ensures fault { 0 < result.number → IsLayoutFault layout.now objects.heap_words result ⊎ IsOf Workers result }
 {
-    let coding = match coding_for(layout, objects.word_count) {
+    let coding = match coding_for(layout, objects.heap_words) {
         Ok(coding) => coding,
         Err(fault) => return fault,
     };

@@ -76,7 +76,8 @@ fn survey(alloc: Global, last: u32) -> Result<Survey, Fault> {
         allowance: 0,
         words: WORDS as u64,
     };
-    let objects = OpaqueObjects::new(alloc, heap, &LIVE, &[4, 3, last])?;
+    let sizes = [4, 3, last];
+    let objects = OpaqueObjects::new(heap, &LIVE, &sizes)?;
     Survey::of_objects(alloc, &objects, &Alone)
 }
 

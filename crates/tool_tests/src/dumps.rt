@@ -70,7 +70,7 @@ const SAMPLE: [&[u8]; 15] = [
 ];
 
 /// The bytes of the sample.
-fn sample(alloc: Global) -> Result<Vec<u8>, AllocError> {
+pub(crate) fn sample(alloc: Global) -> Result<Vec<u8>, AllocError> {
     let mut dump = Vec::new(alloc);
     for part in &SAMPLE {
         dump.extend_from_slice(part)?;

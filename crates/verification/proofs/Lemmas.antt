@@ -7,3 +7,4 @@ pub mod Telling
 pub mod Tallies
 pub mod Visits
 pub mod Comparing
+pub mod Allowances

@@ -10,3 +10,9 @@ pub record IsLeastDifference (wanted found : ℕ → ℕ) (count i : ℕ) : Type
   pub inside : i < count
   pub differs : found i ≢ wanted i
   pub least : AreAlike wanted found i
+
+-- i is the highest of these indices at which they differ
+pub record IsGreatestDifference (wanted found : ℕ → ℕ) (count i : ℕ) : Type 0 where
+  pub inside : i < count
+  pub differs : found i ≢ wanted i
+  pub greatest : (k : ℕ) → i < k → k < count → found k ≡ wanted k

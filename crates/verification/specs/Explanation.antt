@@ -1,5 +1,5 @@
 -- What is said of the words of a heap that differ from those of a compaction.
-use Rattle.std.specs.Prelude.{◌≡◌, ℕ, ◌+◌, ◌-◌, ◌<◌, ◌≤◌, ◌≢◌, Bool, if◌then◌else◌, List, All, Contains, Option, Some, None, MatchOption, length, map, min, slice_index}
+use Rattle.std.specs.Prelude.{◌≡◌, ℕ, ◌+◌, ◌-◌, ◌<◌, ◌≤◌, ◌≢◌, ◌⊎◌, Bool, if◌then◌else◌, List, All, Contains, Option, Some, None, MatchOption, length, map, min, slice_index}
 use Rattle.object_heap.specs.HeapImage.{HeapImage, heap_words, word_at, size_at, references_at}
 use Rattle.summary.specs.LiveObjects.{object_count, object_at}
 use Rattle.summary.specs.NewAddresses.{new_address, new_end_of, new_top}
@@ -11,6 +11,9 @@ use Rattle.verification.specs.declared.difference_tally.Tally.{Tally}
 use Rattle.verification.specs.declared.verdict_explanation.Moved.{Moved}
 use Rattle.verification.specs.declared.verdict_explanation.Part.{Part}
 use Rattle.verification.specs.declared.verdict_explanation.Part.TheVariants.{Header, Field, Data, Filler, Free}
+use Rattle.verification.specs.declared.verdict_explanation.Origin.{Origin}
+use Rattle.verification.specs.declared.verdict_explanation.Origin.TheVariants.{Before, Neighbour}
+use Rattle.verification.specs.declared.difference_tally.OtherWord.{OtherWord}
 use Rattle.verification.specs.declared.verdict_explanation.Lead.{Lead}
 use Rattle.verification.specs.declared.verdict_explanation.Lead.TheVariants.{Null, Outside, Unchanged, To}
 use Rattle.verification.specs.declared.verdict_explanation.ExplainedWord.{ExplainedWord}
@@ -22,9 +25,9 @@ use Rattle.verification.specs.declared.verdict_explanation.Explanation.{Explanat
 abbrev pub limit_of : Bool → HeapImage → ℕ
 limit_of below_top image = if below_top then new_top image else heap_words image
 
--- how many words below an address differ from the compaction's, and the first ten
+-- how many words below an address differ from the compaction's, the first ten, and the last
 abbrev pub IsTallyOf : HeapImage → HeapImage → ℕ → Tally → Type 0
-IsTallyOf before after limit tally = IsTally (word_at (compact before)) (word_at after) limit tally.count tally.first.items
+IsTallyOf before after limit tally = IsTally (word_at (compact before)) (word_at after) limit tally.count tally.first.items tally.last
 
 -- what the word at an index of an object is, by the number of its references
 abbrev pub IsPartAt : Moved → ℕ → ℕ → Part → Type 0
@@ -68,9 +71,31 @@ module _ (before : HeapImage) where
   IsLeadOf Filler w lead = lead ≡ None
   IsLeadOf Free w lead = lead ≡ None
 
+  -- The live object at b touches this one in the compaction, and has this word at this index there.
+  pub record IsNeighbour (moved : Moved) (index w b : ℕ) : Type 0 where
+    pub touches : (new_end_of before b ≡ moved.new) ⊎ (new_address before b ≡ moved.new + size_at before moved.old)
+    pub inside : index < size_at before b
+    pub word : word_at (compact before) (new_address before b + index) ≡ w
+
+  -- a neighbour of the object of a part has this word at the same index
+  abbrev pub IsInNeighbour : Part → ℕ → ℕ → Type 0
+  IsInNeighbour (Header moved) w b = IsNeighbour moved 0 w b
+  IsInNeighbour (Field moved f) w b = IsNeighbour moved (1 + f) w b
+  IsInNeighbour (Data moved d) w b = IsNeighbour moved (1 + references_at before moved.old + d) w b
+  IsInNeighbour Filler w b = ⊥
+  IsInNeighbour Free w b = ⊥
+
+  -- where a word that was found stands, too; 0 stands in too many places
+  abbrev pub IsOrigin : OtherWord → Part → Option Origin → Type 0
+  IsOrigin word part (Some Before) = (0 < word.found) × (word_at before word.address ≡ word.found)
+  IsOrigin word part (Some (Neighbour other)) = (0 < word.found) × (word_at before word.address ≢ word.found) × IsMoved other × IsInNeighbour part word.found other.old
+  IsOrigin word part None = 0 < word.found
+      → (word_at before word.address ≢ word.found) × ((i : ℕ) → i < object_count before → IsInNeighbour part word.found (object_at before i) → ⊥)
+
   pub record IsExplained (explained : ExplainedWord) : Type 0 where
     pub part : IsPart explained.word.address explained.part
     pub lead : IsLeadOf explained.part explained.word.found explained.lead
+    pub origin : IsOrigin explained.word explained.part explained.origin
 
 -- of as many addresses as both lists have, this is the first that isn't the compaction's
 pub record IsOtherLive (before : HeapImage) (addresses : List ℕ) (other : OtherLive) : Type 0 where
@@ -87,9 +112,9 @@ pub record IsOtherRoot (before : HeapImage) (roots : List ℕ) (other : OtherRoo
   pub lead : IsLead before (root_at before other.index) other.found other.lead
 
 -- The count is that of all words below the limit that differ from the compaction's. The words listed are the first ten
--- of them, in ascending order, each with both words, and with what the compaction has there.
+-- of them, in ascending order, each with both words, and with what the compaction has there; and the last is that of all.
 pub record IsExplanation (before after : HeapImage) (addresses roots : List ℕ) (limit : ℕ) (explanation : Explanation) : Type 0 where
-  pub tally : IsTally (word_at (compact before)) (word_at after) limit explanation.count (map (λ (e : ExplainedWord). e.word) explanation.first.items)
+  pub tally : IsTally (word_at (compact before)) (word_at after) limit explanation.count (map (λ (e : ExplainedWord). e.word) explanation.first.items) explanation.last
   pub words : All (IsExplained before) explanation.first.items
   pub live : MatchOption explanation.live
       (AreAlike (λ i. new_address before (object_at before i)) (slice_index addresses) (min (object_count before) (length addresses)))

@@ -4,3 +4,4 @@ pub mod Verdict
 pub mod Explanation
 pub mod Compared
 pub mod Searched
+pub mod OtherPrefix

@@ -1,20 +1,20 @@
 //! Explains how the words of a heap differ from those of the compaction that it should be.
-ghost use Rattle.std.specs.Prelude.{◌≡◌, ◌+◌, ◌-◌, ◌<◌, ◌≤◌, All, Contains, IfOk, IfErr, OnOk, IfSome, IfNone, MatchOption, length, map, min, slice_index};
+ghost use Rattle.std.specs.Prelude.{◌≡◌, ℕ, ◌+◌, ◌-◌, ◌<◌, ◌≤◌, All, Contains, IsTrue, IfOk, IfErr, OnOk, IfSome, IfNone, MatchOption, length, map, min, slice_index};
 ghost use Rattle.object_heap.specs.HeapImage.{heap_words, word_at, size_at, references_at, words_alone};
 ghost use Rattle.image_streams.specs.declared.fault.Fault.TheVariants.{Memory};
 ghost use Rattle.summary.specs.LiveObjects.{object_count, object_at};
 ghost use Rattle.summary.specs.NewAddresses.{new_address, new_top};
 ghost use Rattle.summary.specs.Fillers.{IsDeadRun};
 ghost use Rattle.verification.specs.Compared.{IsGap, IsPlaced};
-ghost use Rattle.verification.specs.Explanation.{IsTallyOf, IsMoved, IsPart, IsPartAt, IsLead, IsLeadOf, IsExplained, IsExplanation, IsOtherLive, IsOtherRoot, limit_of};
+ghost use Rattle.verification.specs.Explanation.{IsTallyOf, IsMoved, IsPart, IsPartAt, IsLead, IsLeadOf, IsNeighbour, IsOrigin, IsExplained, IsExplanation, IsOtherLive, IsOtherRoot, limit_of};
 ghost use Rattle.verification.specs.Difference.{AreAlike};
 ghost use Rattle.verification.specs.Verdict.{root_count, root_at};
-ghost use Rattle.summary.specs.Compaction.{redirected};
+ghost use Rattle.summary.specs.Compaction.{redirected, compact};
 
 use crate::comparison::objects_are_placed;
 use crate::difference_tally::{OtherWord, Tally};
 use crate::verdict_explanation::{
-    ExplainedWord, Explanation, Lead, Moved, OtherLive, OtherRoot, Part,
+    ExplainedWord, Explanation, Lead, Moved, Origin, OtherLive, OtherRoot, Part,
 };
 use crate::verifier::Verifier;
 use heap_image::{Fault, Heap, Image, header, image_is_valid};
@@ -25,8 +25,8 @@ use summary::{Survey, filler_limit};
 
 /// Compares the words of `after` with those of the compaction of `before`: all, or if `below_top` those below the new
 /// top. Counts the words that differ, and says of the first ten which object they belong to, which of its words they
-/// are, and where a wrong reference leads; and names the first live address and the first root that differ. Returns
-/// `None` if the heaps have different numbers of words.
+/// are, where a wrong reference leads, and where a wrong word stands, too; and names the last of them, and the first live
+/// address and the first root that differ. Returns `None` if the heaps have different numbers of words.
 ///
 /// Takes linear time. The only error is `Fault::Memory`, if memory runs out.
 pub fn explain<V: Verifier>(
@@ -57,6 +57,7 @@ pub fn explain<V: Verifier>(
     let first = words.explain_each(alloc, tally.first.as_slice())?;
     Ok(Some(Explanation {
         count: tally.count,
+        last: tally.last,
         first,
         live: words.other_live(after.live),
         root: words.other_root(after.roots),
@@ -76,17 +77,17 @@ pub struct Found<'a> {
 
 /// An image, and the words that should be those of its compaction.
 #[derive(Drop)]
-struct WordComparison<'a> {
-    before: &'a Image,
-    after: &'a Heap<'a>,
-    survey: &'a Survey,
+pub(crate) struct WordComparison<'a> {
+    pub(crate) before: &'a Image,
+    pub(crate) after: &'a Heap<'a>,
+    pub(crate) survey: &'a Survey,
     ghost survey_of: { survey.now ≡ before.now },
     ghost room: { heap_words after.now ≡ heap_words before.now },
 }
 
 impl WordComparison<'_> {
     /// The first address that isn't compared.
-    fn limit(&self, below_top: bool) -> u64
+    pub(crate) fn limit(&self, below_top: bool) -> u64
         ensures value { result ≡ limit_of below_top self.now.before.now }
         ensures above { new_top self.now.before.now ≤ result }
         ensures inside { result ≤ heap_words self.now.before.now }
@@ -105,6 +106,7 @@ impl WordComparison<'_> {
         alloc: Global,
         words: &[OtherWord],
     ) -> Result<Vec<ExplainedWord>, AllocError>
+        requires inside { All (λ word. word.address < heap_words self.now.before.now) words.now }
         ensures words { IfOk result (λ all. map (λ e. e.word) all.items ≡ words.now) }
         ensures explained { IfOk result (λ all. All (IsExplained self.now.before.now) all.items) }
     {
@@ -116,7 +118,7 @@ impl WordComparison<'_> {
     }
 
     /// Counts the words that differ below this address.
-    fn tally(&self, alloc: Global, limit: u64) -> Result<Tally, AllocError>
+    pub(crate) fn tally(&self, alloc: Global, limit: u64) -> Result<Tally, AllocError>
         requires above { new_top self.now.before.now ≤ limit }
         requires inside { limit ≤ heap_words self.now.before.now }
         ensures { IfOk result (IsTallyOf self.now.before.now self.now.after.now limit) }
@@ -237,6 +239,7 @@ impl WordComparison<'_> {
 
     /// Says what the compaction has at the address of a word that differs.
     fn explained(&self, word: OtherWord) -> ExplainedWord
+        requires { word.address < heap_words self.now.before.now }
         ensures word { result.word ≡ word }
         ensures explained { IsExplained self.now.before.now result }
     {
@@ -248,7 +251,109 @@ impl WordComparison<'_> {
             }
             Part::Header(_) | Part::Data(_, _) | Part::Filler | Part::Free => None,
         };
-        ExplainedWord { word, part, lead }
+        ExplainedWord {
+            word,
+            part,
+            lead,
+            origin: self.origin(word, part),
+        }
+    }
+
+    /// Where the word that was found stands, too.
+    fn origin(&self, word: OtherWord, part: Part) -> Option<Origin>
+        requires inside { word.address < heap_words self.now.before.now }
+        requires part { IsPart self.now.before.now word.address part }
+        ensures { IsOrigin self.now.before.now word part result }
+    {
+        if word.found == 0 {
+            return None;
+        }
+        if self.before.word(word.address) == word.found {
+            return Some(Origin::Before);
+        }
+        let neighbour = match part {
+            Part::Header(moved) => self.neighbour(moved, 0, word.found),
+            Part::Field(moved, f) => self.neighbour(moved, 1 + f, word.found),
+            Part::Data(moved, d) => {
+                object_is_inside(self.before, moved.old);
+                let references = self.before.references_at(moved.old);
+                self.neighbour(moved, 1 + references + d, word.found)
+            }
+            Part::Filler | Part::Free => None,
+        };
+        match neighbour {
+            Some(other) => Some(Origin::Neighbour(other)),
+            None => None,
+        }
+    }
+
+    /// The neighbour of a live object in the compaction that has this word at this index, if one has.
+    fn neighbour(&self, moved: Moved, index: u64, word: u64) -> Option<Moved>
+        requires moved { IsMoved self.now.before.now moved }
+        ensures { MatchOption result
+            ((i : ℕ) → i < object_count self.now.before.now → IsNeighbour self.now.before.now moved index word (object_at self.now.before.now i) → ⊥)
+            (λ other. IsMoved self.now.before.now other × IsNeighbour self.now.before.now moved index word other.old) }
+    {
+        objects_are_placed(self.before);
+        for &a in self.before.live() {
+            let other = self.moved(a);
+            if self.is_neighbour(moved, index, word, other) {
+                return Some(other);
+            }
+        }
+        None
+    }
+
+    /// The live object at `a`, and its new address.
+    fn moved(&self, a: u64) -> Moved
+        requires live { Contains self.now.before.now.live a }
+        ensures moved { IsMoved self.now.before.now result }
+        ensures old { result.old ≡ a }
+    {
+        Moved {
+            old: a,
+            new: self.survey.plan().new_address(a),
+        }
+    }
+
+    /// Whether the other live object is a neighbour of this one that has this word at this index.
+    fn is_neighbour(&self, moved: Moved, index: u64, word: u64, other: Moved) -> bool
+        requires moved { IsMoved self.now.before.now moved }
+        requires other { IsMoved self.now.before.now other }
+        requires placed { IsPlaced self.now.before.now other.old other.new }
+        ensures yes { IsTrue result → IsNeighbour self.now.before.now moved index word other.old }
+        ensures no { IsNeighbour self.now.before.now moved index word other.old → IsTrue result }
+    {
+        image_is_valid(self.before);
+        let size = self.before.size_at(other.old);
+        let is_before = other.new + size == moved.new;
+        let is_behind = moved.new <= other.new
+            && other.new - moved.new == self.before.size_at(moved.old);
+        if !is_before && !is_behind {
+            return false;
+        }
+        if size <= index {
+            return false;
+        }
+        self.object_word(other.old, other.new, index) == word
+    }
+
+    /// The word at this index of the object that was at `a`, in the compaction.
+    fn object_word(&self, a: u64, place: u64, index: u64) -> u64
+        requires placed { IsPlaced self.now.before.now a place }
+        requires inside { index < size_at self.now.before.now a }
+        ensures { result ≡ word_at (compact self.now.before.now) (place + index) }
+    {
+        image_is_valid(self.before);
+        if index == 0 {
+            return self.before.word(a);
+        }
+        let f = index - 1;
+        if f < self.before.references_at(a) {
+            self.survey.plan().redirected(self.before.word(a + 1 + f))
+        } else {
+            self.before.word(a + index)
+        }
     }
 
     /// Where a reference leads that was found. `was` is the one from before the collection.
@@ -332,6 +437,14 @@ impl WordComparison<'_> {
             Part::Free
         }
     }
+}
+
+/// A law: a live object lies in the heap.
+fn object_is_inside(image: &Image, a: u64)
+    requires live { Contains image.now.live a }
+    ensures inside { a < heap_words image.now }
+{
+    image_is_valid(image);
 }
 
 /// A law: the fields of a live object lie in the heap.

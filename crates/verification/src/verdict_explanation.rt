@@ -34,6 +34,15 @@ pub enum Lead {
     To(Part),
 }
 
+/// Where the word that was found stands, too.
+#[derive(Debug, Clone, Copy, PartialEq, Eq)]
+pub enum Origin {
+    /// It was at the same address before the collection.
+    Before,
+    /// The compaction has it at the same index of this live object, which touches the one that is expected.
+    Neighbour(Moved),
+}
+
 /// A word that differs from the compaction's, and what the compaction has there.
 #[derive(Debug, Clone, Copy, PartialEq, Eq)]
 pub struct ExplainedWord {
@@ -41,6 +50,8 @@ pub struct ExplainedWord {
     pub part: Part,
     /// Where the word that was found leads, if the compaction has a reference there.
     pub lead: Option<Lead>,
+    /// Where the word that was found stands, too, if it isn't 0.
+    pub origin: Option<Origin>,
 }
 
 /// How the words of a heap differ from those of the compaction that it should be.
@@ -48,6 +59,8 @@ pub struct ExplainedWord {
 pub struct Explanation {
     /// The number of words that differ.
     pub count: u64,
+    /// The address of the last of them.
+    pub last: Option<u64>,
     /// The first of them, at most [`LISTED`](crate::LISTED), ascending.
     pub first: Vec<ExplainedWord>,
     /// The first live address that differs, of as many as both lists have.
@@ -72,4 +85,11 @@ pub struct OtherRoot {
     pub found: u64,
     /// Where the root that was found leads.
     pub lead: Lead,
+}
+
+/// Where the dense prefix ends, and where it would end by another allowance.
+#[derive(Debug, Clone, Copy, PartialEq, Eq)]
+pub struct OtherPrefix {
+    pub expected: u64,
+    pub found: u64,
 }

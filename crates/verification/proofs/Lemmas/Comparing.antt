@@ -1,6 +1,6 @@
 -- Words of a heap compared one by one with those of the compaction of another.
 use Rattle.std.proofs.Common.{◌≡◌, ℕ, zero, suc, ◌+◌, ◌-◌, ◌≤◌, ◌<◌, ◌≢◌, List, ◌∷◌, refl, sym, ◌∙◌, ap, subst, arith}
-use Rattle.std.specs.Prelude.{slice_range, replicate, Contains}
+use Rattle.std.specs.Prelude.{slice_range, replicate, Contains, Option}
 use Rattle.std.proofs.lemmas.List.Elements.{All-contains}
 use Rattle.object_heap.specs.Header.{filler_header}
 use Rattle.object_heap.specs.HeapImage.{HeapImage, IsValid, HasSoundHeader, heap_words, word_at, size_at, references_at}
@@ -13,8 +13,8 @@ use Rattle.verification.specs.declared.difference_tally.OtherWord.{OtherWord}
 use Rattle.verification.proofs.Lemmas.Gaps.{behind-zero, behind-suc}
 use Rattle.verification.proofs.Lemmas.Placing.{place_end, filler_zeros, data_words, compact_word}
 
-pub tally_to : {wanted found : ℕ → ℕ} {count : ℕ} {first : List OtherWord} (p q : ℕ) → p ≡ q → IsTally wanted found p count first → IsTally wanted found q count first
-tally_to {wanted} {found} {count} {first} p q e tally = subst (λ n. IsTally wanted found n count first) e tally
+pub tally_to : {wanted found : ℕ → ℕ} {count : ℕ} {first : List OtherWord} {last : Option ℕ} (p q : ℕ) → p ≡ q → IsTally wanted found p count first last → IsTally wanted found q count first last
+tally_to {wanted} {found} {count} {first} {last} p q e tally = subst (λ n. IsTally wanted found n count first last) e tally
 
 -- a word of a filler after its header
 pub gap_zero : (image : HeapImage) (from to p : ℕ) → from < to → slice_range (compact image).words from to ≡ filler_header (to - from) ∷ replicate (to - from - 1) 0
@@ -60,3 +60,12 @@ field_inside image valid a f live few =
   where
     within : (r s n : ℕ) → f < r → r < s → a + s ≤ n → a + 1 + f < n
     within r s n h k l = omega (arith, h, k, l)
+
+-- a live object lies in the heap
+pub object_inside : (image : HeapImage) → IsValid image → (a : ℕ) → Contains image.live a → a < heap_words image
+object_inside image valid a live =
+    let sound : HasSoundHeader image a = All-contains (HasSoundHeader image) image.live a valid.live_list.sound live in
+    within (size_at image a) (heap_words image) sound.header sound.inside
+  where
+    within : (s n : ℕ) → 0 < s → a + s ≤ n → a < n
+    within s n h l = omega (arith, h, l)

@@ -1,5 +1,5 @@
 -- The live objects of an image, visited in order: where each goes, and the gap before it.
-use Rattle.std.proofs.Common.{◌≡◌, ℕ, ◌<◌, ◌≤◌, List, length, get_or, sym, subst}
+use Rattle.std.proofs.Common.{◌≡◌, ℕ, ◌<◌, ◌≤◌, List, length, get_or, refl, sym, subst}
 use Rattle.object_heap.specs.HeapImage.{HeapImage}
 use Rattle.summary.specs.LiveObjects.{object_count, object_at}
 use Rattle.summary.specs.NewAddresses.{new_address}
@@ -21,3 +21,9 @@ module _ (image : HeapImage) (known : AreKnown image) (items : List ℕ) (i next
 
   pub object : IsPlaced image (get_or items i 0) place
   object = subst (λ (xs : List ℕ). IsPlaced image (get_or xs i 0) place) (sym items_are) (subst (λ n. IsPlaced image (object_at image i) n) (sym place_is) (is_placed image known i inside))
+
+-- the same, where the objects before it don't matter
+pub placed_object : (image : HeapImage) → AreKnown image → (items : List ℕ) (i place : ℕ) → items ≡ image.live → i < length items → place ≡ new_address image (object_at image i)
+    → IsPlaced image (get_or items i 0) place
+placed_object image known items i place items_are l place_is =
+    object image known items i (behind (place_end image) i) place items_are l refl place_is

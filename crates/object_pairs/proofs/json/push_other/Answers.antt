@@ -1,0 +1,5 @@
+use Rattle.object_pairs.proofs.Lemmas.Texts.{join2}
+use Rattle.object_pairs.proofs.json.push_other.Goals as goal
+
+pub returns : goal.returns
+returns c = join2 _ _ _ _ _ c.in_ok-push_str.ensures.bytes c.in_ok-push_space.ensures

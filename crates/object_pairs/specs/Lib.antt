@@ -1,0 +1,10 @@
+pub mod Graph
+pub mod Pairing
+pub mod Conflicts
+pub mod Moves
+pub mod Figures
+pub mod Spaces
+pub mod Comparison
+pub mod Text
+pub mod Json
+pub mod Report
