@@ -2,9 +2,9 @@
  *
  * Link libpcompact.a. It takes memory by malloc, unless the program defines the three functions of heap.c: any allocator that
  * aligns to 16 bytes and that several threads may call can stand in its place. Each call is proved but pcompact_cut,
- * pcompact_is_live, pcompact_redirect_each, pcompact_mark_each and pcompact_slots_by, those in place, those of several threads
- * over lent words, and those of slides and segments: these are a few lines of C, here, in in_place.c, in lent.c, in slide.c and in
- * segments.c, around calls that are proved, and are only tested.
+ * pcompact_is_live, pcompact_redirect_each, pcompact_work_yielding, pcompact_mark_each and pcompact_slots_by, those in place, those
+ * of several threads over lent words, and those of slides and segments: these are a few lines of C, here, in in_place.c, in lent.c,
+ * in slide.c and in segments.c, around calls that are proved, and are only tested.
  *
  * No fault loses a heap: this is proved, but for words that are lent or slid, of which it is only tested. What a caller mixes up
  * of a collection or slide by several threads is fault 12.
@@ -220,11 +220,20 @@ typedef struct pcompact_slot_coding {
  * writes them meanwhile. */
 uint32_t pcompact_redirect(pcompact_handle *handle, uint64_t *slots, size_t slot_count, pcompact_slot_coding coding);
 
+/* How many slots that lie apart are redirected at once. */
+enum { PCOMPACT_SLOTS = 256 };
+
 /* The same of slots that lie apart, each of which a pointer leads to, and none twice. */
 static inline uint32_t pcompact_redirect_each(pcompact_handle *handle, uint64_t *const *slots, size_t slot_count,
                                               pcompact_slot_coding coding) {
+    uint64_t values[PCOMPACT_SLOTS];
     uint32_t how = handle->is_held ? PCOMPACT_SETTLED : PCOMPACT_NOT_HELD;
-    for (size_t i = 0; i < slot_count; i++) how |= pcompact_redirect(handle, slots[i], 1, coding);
+    for (size_t from = 0; from < slot_count; from += PCOMPACT_SLOTS) {
+        size_t rest = slot_count - from, count = rest < PCOMPACT_SLOTS ? rest : (size_t)PCOMPACT_SLOTS;
+        for (size_t i = 0; i < count; i++) values[i] = *slots[from + i];
+        how |= pcompact_redirect(handle, values, count, coding);
+        for (size_t i = 0; i < count; i++) *slots[from + i] = values[i];
+    }
     return how;
 }
 
@@ -232,9 +241,20 @@ static inline uint32_t pcompact_redirect_each(pcompact_handle *handle, uint64_t 
  * and never waits. `handle` isn't null. */
 uint32_t pcompact_work(pcompact_handle *handle, uint64_t turns);
 
-/* The same until all regions are filled; spins while none is ready, so it wants a processor for each worker. Where they may have
- * fewer, call pcompact_work, and sched_yield after PCOMPACT_NONE_READY. Returns PCOMPACT_SETTLED or PCOMPACT_NOT_HELD. */
+/* The same until all regions are filled; spins while none is ready, so it wants a processor for each worker. Returns
+ * PCOMPACT_SETTLED or PCOMPACT_NOT_HELD. */
 uint32_t pcompact_work_all(pcompact_handle *handle);
+
+/* The same for workers that may have fewer processors: while no region is ready it calls `yield`, such as sched_yield, which gives
+ * the processor to a worker that makes some ready. It may do anything but use this handle, as other work of the host's. A host that
+ * would rather come back later calls pcompact_work. */
+static inline uint32_t pcompact_work_yielding(pcompact_handle *handle, int (*yield)(void)) {
+    for (;;) {
+        uint32_t how = pcompact_work(handle, UINT64_MAX);
+        if (how != PCOMPACT_NONE_READY && how != PCOMPACT_TURNS_USED) return how;
+        yield();
+    }
+}
 
 /* Ends a collection by the handles of one pcompact_begin or pcompact_begin_rooted, in any order, once no other call uses them:
  * fills what is left to fill, and writes the words of the compaction and the new live addresses or roots. Returns the number of
@@ -423,7 +443,6 @@ typedef struct pcompact_segments {
     size_t worker_count;
     uint64_t tag;  /* what a slot that leads to a word has above the word's machine address */
     uint64_t dead; /* what takes the place of a slot that leads to a word that no live object has */
-    size_t recent; /* the segment to which a slot led last: 0 at first, and only the library writes it */
 } pcompact_segments;
 
 /* How many handles so many workers of so many segments have. Those of two workers share no line of a cache. */
@@ -450,9 +469,12 @@ pcompact_fault pcompact_plan_segments(const pcompact_segments *heap, const pcomp
 pcompact_fault pcompact_share_segments(const pcompact_segments *heap);
 
 /* Redirects slots by a worker's handles, before or after the begin: each that leads to a word of a segment leads to where its
- * slide takes the word, or becomes `dead`. All others stay. Several workers may do so at once, each by its own copy of the struct.
+ * slide takes the word, or becomes `dead`. All others stay. Several workers may do so at once.
  * Returns PCOMPACT_SETTLED, or PCOMPACT_NOT_HELD if a slot led to a segment whose handle isn't held, and stays. */
-uint32_t pcompact_redirect_segments(pcompact_segments *heap, size_t worker, uint64_t *slots, size_t slot_count);
+uint32_t pcompact_redirect_segments(const pcompact_segments *heap, size_t worker, uint64_t *slots, size_t slot_count);
+
+/* The same of slots that lie apart, each of which a pointer leads to, and none twice: sooner than a call for each. */
+uint32_t pcompact_redirect_segments_each(const pcompact_segments *heap, size_t worker, uint64_t *const *slots, size_t slot_count);
 
 /* Begins the slides that haven't begun, by all workers, whose shares of plans are forgotten. Returns the first fault, which is one
  * of pcompact_begin_slide: then the segments before have begun, and another call begins the others. */

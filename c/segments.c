@@ -20,18 +20,15 @@ static bool leads_into(const pcompact_segments *heap, size_t segment, uint64_t s
     return distance % sizeof(uint64_t) == 0 && distance < slide->word_count * sizeof(uint64_t);
 }
 
-/* The last segment that begins at or below what a slot leads to, or the first. */
+/* The last segment that begins at or below what a slot leads to, or the first. Which that is can't be foreseen, so no branch hangs
+ * on it. */
 static size_t find_segment(const pcompact_segments *heap, uint64_t slot) {
-    size_t low = 0, high = heap->segment_count;
-    while (high - low > 1) {
-        size_t middle = low + (high - low) / 2;
-        if ((uintptr_t)heap->slides[middle].words <= slot - heap->tag) {
-            low = middle;
-        } else {
-            high = middle;
-        }
+    size_t first = 0;
+    for (size_t count = heap->segment_count, half; count > 1; count -= half) {
+        half = count / 2;
+        first += (uintptr_t)heap->slides[first + half].words <= slot - heap->tag ? half : 0;
     }
-    return low;
+    return first;
 }
 
 static void forget_plans(const pcompact_segments *heap) {
@@ -86,34 +83,96 @@ pcompact_fault pcompact_share_segments(const pcompact_segments *heap) {
     return fault;
 }
 
-/* How many of these slots, from the first on, lead to the recent segment. */
-static size_t count_recent(const pcompact_segments *heap, const uint64_t *slots, size_t slot_count) {
-    const pcompact_slide *slide = &heap->slides[heap->recent];
-    uint64_t start = (uintptr_t)slide->words + heap->tag, size = slide->word_count * sizeof(uint64_t);
-    size_t count = 0;
-    while (count < slot_count && (slots[count] - start) % sizeof(uint64_t) == 0 && slots[count] - start < size) count++;
-    return count;
+/* Slots that are redirected at once, and the segment to which each leads: NOWHERE where it stays, or is redirected. */
+enum { MOST_SLOTS = PCOMPACT_SLOTS };
+static const size_t NOWHERE = ~(size_t)0;
+struct batch {
+    uint64_t *slots;
+    size_t count, segments[MOST_SLOTS];
+};
+
+/* The segment to which a slot leads, most likely this one. */
+static size_t segment_of(const pcompact_segments *heap, size_t likely, uint64_t slot) {
+    if (leads_into(heap, likely, slot)) return likely;
+    size_t found = find_segment(heap, slot);
+    return leads_into(heap, found, slot) ? found : NOWHERE;
 }
 
-/* Redirects slots that lead to the recent segment. */
-static uint32_t redirect_recent(const pcompact_segments *heap, size_t worker, uint64_t *slots, size_t slot_count) {
-    const pcompact_slide *slide = &heap->slides[heap->recent];
+/* Finds the segments of a batch. Returns the one to which all slots lead that lead to any, or NOWHERE if that isn't so. */
+static size_t find_segments(const pcompact_segments *heap, struct batch *batch) {
+    size_t first = find_segment(heap, batch->slots[0]), recent = first;
+    bool are_alike = true;
+    for (size_t i = 0; i < batch->count; i++) {
+        size_t segment = segment_of(heap, recent, batch->slots[i]);
+        batch->segments[i] = segment;
+        if (segment == recent || segment == NOWHERE) continue;
+        are_alike = false;
+        recent = segment;
+    }
+    return are_alike ? first : NOWHERE;
+}
+
+/* Redirects those of some slots that lead to a segment. */
+static uint32_t redirect_into(const pcompact_segments *heap, size_t segment, size_t worker, uint64_t *slots, size_t slot_count) {
+    const pcompact_slide *slide = &heap->slides[segment];
     pcompact_slot_coding coding = {(uintptr_t)slide->words + heap->tag, slide->word_count, heap->dead, 3};
-    return pcompact_redirect(handle_of(heap, heap->recent, worker), slots, slot_count, coding);
+    return pcompact_redirect(handle_of(heap, segment, worker), slots, slot_count, coding);
 }
 
-uint32_t pcompact_redirect_segments(pcompact_segments *heap, size_t worker, uint64_t *slots, size_t slot_count) {
+/* Redirects those slots that lead to one segment, of which the first has this index. */
+static uint32_t redirect_alike(const pcompact_segments *heap, size_t worker, struct batch *batch, size_t first) {
+    uint64_t slots[MOST_SLOTS];
+    size_t taken[MOST_SLOTS], count = 0, segment = batch->segments[first];
+    for (size_t i = first; i < batch->count; i++) {
+        slots[count] = batch->slots[i];
+        taken[count] = i;
+        count += batch->segments[i] == segment;
+    }
+    uint32_t how = redirect_into(heap, segment, worker, slots, count);
+    for (size_t i = 0; i < count; i++) {
+        batch->slots[taken[i]] = slots[i];
+        batch->segments[taken[i]] = NOWHERE;
+    }
+    return how;
+}
+
+/* Whether one of some slots leads to a segment. */
+static bool leads_any(const struct batch *batch) {
+    size_t i = 0;
+    while (i < batch->count && batch->segments[i] == NOWHERE) i++;
+    return i < batch->count;
+}
+
+static uint32_t redirect_batch(const pcompact_segments *heap, size_t worker, uint64_t *slots, size_t slot_count) {
+    struct batch batch;
     uint32_t how = PCOMPACT_SETTLED;
-    for (size_t from = 0, count; from < slot_count && heap->segment_count > 0; from += count) {
-        count = 1;
-        if ((slots[from] - heap->tag) % sizeof(uint64_t) != 0) continue;
-        if (!leads_into(heap, heap->recent, slots[from])) {
-            size_t found = find_segment(heap, slots[from]);
-            if (!leads_into(heap, found, slots[from])) continue;
-            heap->recent = found;
-        }
-        count += count_recent(heap, &slots[from + 1], slot_count - from - 1);
-        how |= redirect_recent(heap, worker, &slots[from], count);
+    batch.slots = slots;
+    batch.count = slot_count;
+    size_t segment = find_segments(heap, &batch);
+    if (segment != NOWHERE) return leads_any(&batch) ? redirect_into(heap, segment, worker, slots, slot_count) : how;
+    for (size_t i = 0; i < slot_count; i++) {
+        if (batch.segments[i] != NOWHERE) how |= redirect_alike(heap, worker, &batch, i);
+    }
+    return how;
+}
+
+uint32_t pcompact_redirect_segments(const pcompact_segments *heap, size_t worker, uint64_t *slots, size_t slot_count) {
+    uint32_t how = PCOMPACT_SETTLED;
+    for (size_t from = 0; from < slot_count && heap->segment_count > 0; from += MOST_SLOTS) {
+        size_t rest = slot_count - from;
+        how |= redirect_batch(heap, worker, &slots[from], rest < MOST_SLOTS ? rest : MOST_SLOTS);
+    }
+    return how;
+}
+
+uint32_t pcompact_redirect_segments_each(const pcompact_segments *heap, size_t worker, uint64_t *const *slots, size_t slot_count) {
+    uint64_t values[MOST_SLOTS];
+    uint32_t how = PCOMPACT_SETTLED;
+    for (size_t from = 0; from < slot_count; from += MOST_SLOTS) {
+        size_t count = slot_count - from < MOST_SLOTS ? slot_count - from : MOST_SLOTS;
+        for (size_t i = 0; i < count; i++) values[i] = *slots[from + i];
+        how |= pcompact_redirect_segments(heap, worker, values, count);
+        for (size_t i = 0; i < count; i++) *slots[from + i] = values[i];
     }
     return how;
 }

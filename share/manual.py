@@ -5,7 +5,7 @@ import textwrap
 from helps import Help, Helps, Option
 
 # When the texts below were last changed.
-DATE = "2026-11-29"
+DATE = "2026-12-01"
 WIDTH = 78
 ESCAPES = {"\\": r"\e", "^": r"\(ha", "~": r"\(ti", "`": r"\(ga"}
 
@@ -22,17 +22,24 @@ schedule that *record* writes.
 Options may come before or after the arguments of a command. After *--* every word is an argument.
 """
 
+STREAMS = """\
+*-* in place of a file is standard input where the file is read, and standard output where it is written; _./-_ is a file of that
+name. At most one file is read so, and one written. What a command prints goes to standard error if it writes a file to standard
+output.
+"""
+
 FILES = """\
 A fault may leave the files to write empty or incomplete. With *--atomic* new files _.pcompact-N.tmp_ are made beside them, and
-are renamed only once the command has succeeded. If the command is killed a new file may stay; the next command with *--atomic*
-that writes in the folder removes it, if only its user can rename files there.
+are renamed only once the command has succeeded. If the command is killed a new file may stay, except by Ctrl-C at a terminal; the
+next command with *--atomic* that writes in the folder removes it, if only its user can rename files there.
 """
 
 ENVIRONMENT = [
     ("GLIBC_TUNABLES", "Settings of the C library. If it isn't set, the script that starts the program requests huge pages by it."),
     ("LC_ALL, LC_CTYPE, LANG", "*map* and *timeline* draw with blocks if the first of these that is set and not empty names "
                                "UTF-8, and else with letters."),
-    ("COLUMNS, LINES", "The size of a terminal, which *map* and *timeline* fill."),
+    ("COLUMNS, LINES", "The size of a terminal, which *map* and *timeline* fill, and which cuts the line of progress. The script that "
+                       "starts the program sets both at a terminal if the first isn't set."),
     ("NO_COLOR, TERM", "*map* and *timeline* use no colours on a terminal if the first isn't empty, or the second is dumb."),
 ]
 
@@ -50,8 +57,9 @@ EXAMPLES = [
 SEE_ALSO = """\
 *jcmd*(1), *jmap*(1), *mallopt*(3)
 
-The repository of Pithondlu has the formats of all files and the faults in _docs/FORMATS.md_, the definitions in _docs/HEAP.md_,
-what is proved in _docs/PROMISES.md_, and an example of each command in _docs/TOUR.md_.
+The folder _share/doc/pithondlu_ of the installation, or _docs_ of the repository, has all of this page and more in _COMMANDS.md_, the
+formats of all files and the faults in _FORMATS.md_, the definitions in _HEAP.md_, what is proved in _PROMISES.md_, and an example of
+each command in _TOUR.md_.
 """
 
 
@@ -94,7 +102,7 @@ def prose(text: str) -> list[str]:
 
 def sentence(text: str) -> list[str]:
     """A line of help, as a sentence."""
-    return wrapped(re.sub(r"--[a-z-]+", lambda it: bold(it[0]), escaped(text.rstrip(".") + ".")))
+    return wrapped(re.sub(r"--[a-z-]+|(?<!\S)-(?!\S)", lambda it: bold(it[0]), escaped(text.rstrip(".") + ".")))
 
 
 def item(head: str, lines: list[str]) -> list[str]:
@@ -151,7 +159,7 @@ def page(helps: Helps) -> str:
     lines += [".SH COMMANDS"]
     for it in helps.commands:
         lines += command(it)
-    lines += [".SH EXIT STATUS", *exit_status(helps.program), ".SH ENVIRONMENT"]
+    lines += [".SH STREAMS", *prose(STREAMS), ".SH EXIT STATUS", *exit_status(helps.program), ".SH ENVIRONMENT"]
     for names, text in ENVIRONMENT:
         lines += item(", ".join(bold(name) for name in names.split(", ")), prose(text))
     lines += [".SH FILES", *prose(FILES), ".SH EXAMPLES"]

@@ -56,10 +56,16 @@ _pcompact_read() {
                 'generate --allowance') option=$word ;;
             'collect --progress' | \
                 'verify --progress' | \
+                'summary --progress' | \
+                'order --progress' | \
                 'map --color' | \
+                'map --progress' | \
+                'text --progress' | \
+                'assemble --progress' | \
                 'record --progress' | \
                 'replay --progress' | \
                 'timeline --color' | \
+                'timeline --progress' | \
                 'upgrade --progress' | \
                 'import --progress' | \
                 'compare --progress' | \
@@ -81,14 +87,14 @@ _pcompact_takes() {
     '') options='-h --help -V --version' ;;
     collect) options='-w --workers --region-log --allowance --atomic --json --stats --progress -v --verbose -h --help' most=2 ;;
     verify) options='--explain --ignore-free --region-log --allowance --json --stats --progress -v --verbose -h --help' most=2 ;;
-    summary) options='--heading --region-log --allowance --json -v --verbose -h --help' most=1 ;;
-    order) options='--region-log --allowance --json -v --verbose -h --help' most=1 ;;
-    map) options='--after --width --height --svg --region-log --allowance --letters --color --no-color --atomic -v --verbose -h --help' most=1 ;;
-    text) options='-v --verbose -h --help' most=1 ;;
-    assemble) options='--atomic -v --verbose -h --help' most=2 ;;
+    summary) options='--heading --region-log --allowance --json --progress -v --verbose -h --help' most=1 ;;
+    order) options='--region-log --allowance --json --progress -v --verbose -h --help' most=1 ;;
+    map) options='--after --width --height --svg --region-log --allowance --letters --color --no-color --atomic --progress -v --verbose -h --help' most=1 ;;
+    text) options='--progress -v --verbose -h --help' most=1 ;;
+    assemble) options='--atomic --progress -v --verbose -h --help' most=2 ;;
     record) options='-w --workers --turns --region-log --allowance --atomic --stats --progress -v --verbose -h --help' most=3 ;;
     replay) options='--region-log --allowance --progress -v --verbose -h --help' most=2 ;;
-    timeline) options='--width --svg --html --region-log --allowance --letters --color --no-color --atomic -v --verbose -h --help' most=2 ;;
+    timeline) options='--width --svg --html --region-log --allowance --letters --color --no-color --atomic --progress -v --verbose -h --help' most=2 ;;
     upgrade) options='--to --progress --atomic -v --verbose -h --help' most=2 ;;
     import) options='--region-log --allowance --version --live-only --classes --histogram --json --stats --progress --atomic -v --verbose -h --help' most=2 ;;
     compare) options='--explain --json --progress -v --verbose -h --help' most=2 ;;
@@ -128,10 +134,16 @@ _pcompact_value() {
     'generate --version') _pcompact_words {1..3} ;;
     'collect --progress') _pcompact_words auto always never ;;
     'verify --progress') _pcompact_words auto always never ;;
+    'summary --progress') _pcompact_words auto always never ;;
+    'order --progress') _pcompact_words auto always never ;;
     'map --color') _pcompact_words auto always never ;;
+    'map --progress') _pcompact_words auto always never ;;
+    'text --progress') _pcompact_words auto always never ;;
+    'assemble --progress') _pcompact_words auto always never ;;
     'record --progress') _pcompact_words auto always never ;;
     'replay --progress') _pcompact_words auto always never ;;
     'timeline --color') _pcompact_words auto always never ;;
+    'timeline --progress') _pcompact_words auto always never ;;
     'upgrade --progress') _pcompact_words auto always never ;;
     'import --progress') _pcompact_words auto always never ;;
     'compare --progress') _pcompact_words auto always never ;;

@@ -58,12 +58,14 @@ complete -c pcompact -n '__pcompact_is summary' -l heading -d 'Print column name
 complete -c pcompact -n '__pcompact_is summary' -l region-log -x -a '(seq 3 20)' -d 'Read IMAGE with regions of 2^k words, k from 3 to 20'
 complete -c pcompact -n '__pcompact_is summary' -l allowance -x -d 'Read IMAGE as if its prefix might keep m dead words'
 complete -c pcompact -n '__pcompact_is summary' -l json -d 'Print a JSON object'
+complete -c pcompact -n '__pcompact_is summary' -l progress -a 'auto always never' -d 'Show progress (or --progress=WHEN: auto, always, never)'
 complete -c pcompact -n '__pcompact_is summary' -s v -l verbose -d 'Print details of errors (default; --verbose=never: none)'
 complete -c pcompact -n '__pcompact_is summary' -s h -l help -d 'Print help'
 complete -c pcompact -n '__pcompact_is order' -F
 complete -c pcompact -n '__pcompact_is order' -l region-log -x -a '(seq 3 20)' -d 'Read IMAGE with regions of 2^k words, k from 3 to 20'
 complete -c pcompact -n '__pcompact_is order' -l allowance -x -d 'Read IMAGE as if its prefix might keep m dead words'
 complete -c pcompact -n '__pcompact_is order' -l json -d 'Print a JSON object'
+complete -c pcompact -n '__pcompact_is order' -l progress -a 'auto always never' -d 'Show progress (or --progress=WHEN: auto, always, never)'
 complete -c pcompact -n '__pcompact_is order' -s v -l verbose -d 'Print details of errors (default; --verbose=never: none)'
 complete -c pcompact -n '__pcompact_is order' -s h -l help -d 'Print help'
 complete -c pcompact -n '__pcompact_is map' -F
@@ -77,13 +79,16 @@ complete -c pcompact -n '__pcompact_is map' -l letters -d 'Draw with letters eve
 complete -c pcompact -n '__pcompact_is map' -l color -a 'auto always never' -d 'Use colours (or --color=WHEN: auto, always, never)'
 complete -c pcompact -n '__pcompact_is map' -l no-color -d 'Never use colours'
 complete -c pcompact -n '__pcompact_is map' -l atomic -d 'Replace files only once the command has succeeded'
+complete -c pcompact -n '__pcompact_is map' -l progress -a 'auto always never' -d 'Show progress (or --progress=WHEN: auto, always, never)'
 complete -c pcompact -n '__pcompact_is map' -s v -l verbose -d 'Print details of errors (default; --verbose=never: none)'
 complete -c pcompact -n '__pcompact_is map' -s h -l help -d 'Print help'
 complete -c pcompact -n '__pcompact_is text' -F
+complete -c pcompact -n '__pcompact_is text' -l progress -a 'auto always never' -d 'Show progress (or --progress=WHEN: auto, always, never)'
 complete -c pcompact -n '__pcompact_is text' -s v -l verbose -d 'Print details of errors (default; --verbose=never: none)'
 complete -c pcompact -n '__pcompact_is text' -s h -l help -d 'Print help'
 complete -c pcompact -n '__pcompact_is assemble' -F
 complete -c pcompact -n '__pcompact_is assemble' -l atomic -d 'Replace files only once the command has succeeded'
+complete -c pcompact -n '__pcompact_is assemble' -l progress -a 'auto always never' -d 'Show progress (or --progress=WHEN: auto, always, never)'
 complete -c pcompact -n '__pcompact_is assemble' -s v -l verbose -d 'Print details of errors (default; --verbose=never: none)'
 complete -c pcompact -n '__pcompact_is assemble' -s h -l help -d 'Print help'
 complete -c pcompact -n '__pcompact_is record' -F
@@ -112,6 +117,7 @@ complete -c pcompact -n '__pcompact_is timeline' -l letters -d 'Draw with letter
 complete -c pcompact -n '__pcompact_is timeline' -l color -a 'auto always never' -d 'Use colours (or --color=WHEN: auto, always, never)'
 complete -c pcompact -n '__pcompact_is timeline' -l no-color -d 'Never use colours'
 complete -c pcompact -n '__pcompact_is timeline' -l atomic -d 'Replace files only once the command has succeeded'
+complete -c pcompact -n '__pcompact_is timeline' -l progress -a 'auto always never' -d 'Show progress (or --progress=WHEN: auto, always, never)'
 complete -c pcompact -n '__pcompact_is timeline' -s v -l verbose -d 'Print details of errors (default; --verbose=never: none)'
 complete -c pcompact -n '__pcompact_is timeline' -s h -l help -d 'Print help'
 complete -c pcompact -n '__pcompact_is upgrade' -F

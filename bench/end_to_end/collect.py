@@ -20,7 +20,8 @@ With `--phases` it tells how long each phase takes instead, on one core with one
 the plain program on the same cores: of heaps of 32 MiB, half live, the least of the rounds in milliseconds. Both tell
 their phases by the clock, ours by `phases/phases.rt.txt`, which calls the library as `pcompact collect` does: `read`
 ends and `check` begins with the last bytes before the end; `marks` and `plan` are of runs of their own; `cells` is
-what else comes before the first fill; `fills` end with the last completion.
+what else comes before the first fill; `fills` end with the last completion. The plain program marks the words of live
+objects while it checks them.
 
 With `--memory` it tells how long the collection takes alone, in memory and without files, as a runtime would feel it: of
 heaps of 32 MiB, half live, by 1, 2 and 4 workers of the library (`in_memory/in_memory.rt.txt`) beside the plain program's

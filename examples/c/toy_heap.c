@@ -6,7 +6,7 @@
 #include <stdlib.h>
 #include <string.h>
 
-enum { REGION_LOG = 9, TURNS = 64 };
+enum { REGION_LOG = 9 };
 
 static void fail(const char *why) {
     fprintf(stderr, "toy heap: %s\n", why);
@@ -30,11 +30,7 @@ void toy_heap_free(toy_heap *heap) {
 /* One thread's part. Where no region is ready another thread has to go on, maybe on this processor. Whatever goes wrong, the end
  * tells. */
 static void *work(void *handle) {
-    uint32_t state;
-    do {
-        state = pcompact_work(handle, TURNS);
-        if (state == PCOMPACT_NONE_READY) sched_yield();
-    } while (state == PCOMPACT_NONE_READY || state == PCOMPACT_TURNS_USED);
+    pcompact_work_yielding(handle, sched_yield);
     return NULL;
 }
 

@@ -5,9 +5,6 @@
  * and moves it as it is: PCOMPACT_WORKERS says how many threads share that. */
 #define CAML_INTERNALS
 #include "caml/finalise.h"
-#include "caml/gc.h"
-#include "caml/major_gc.h"
-#include "caml/memory.h"
 #include "caml/memprof.h"
 #include "caml/roots.h"
 #include "caml/weak.h"
@@ -62,9 +59,7 @@ static void share_work(void *(*part)(void *worker)) {
     for (size_t i = 1; i < started; i++) pthread_join(threads[i], NULL);
 }
 
-static int is_live(header_t header) {
-    return header != 0 && Is_white_hd(header);
-}
+static int is_live(header_t header) { return header != 0 && Is_white_hd(header); }
 
 /* Lists the live blocks of a chunk, and plans. A live block has at least two words, and what a list doesn't use is no memory. With
  * an allowance of 0 all blocks slide, each to where those before it end. */
@@ -90,20 +85,31 @@ static void *plan_chunks(void *worker) {
     return worker;
 }
 
-/* Redirects the fields of a chunk's blocks. Numbers, and what leads elsewhere, stay. A value may lead to an infix header inside a
- * closure, which keeps its distance. Each slot is redirected once, as old and new places overlap. */
-static void redirect_chunk(pcompact_segments *mine, size_t worker, const pcompact_slide *slide) {
+/* Redirects slots. What leads elsewhere stays. A value may lead to an infix header inside a closure, which keeps its distance. Each
+ * slot comes here once, as old and new places overlap. */
+static void redirect(size_t worker, uint64_t **slots, size_t *count) {
+    pcompact_redirect_segments_each(&heap, worker, slots, *count);
+    *count = 0;
+}
+
+/* Redirects the fields of a chunk's blocks, but for numbers. */
+static void redirect_chunk(size_t worker, const pcompact_slide *slide) {
+    uint64_t *slots[PCOMPACT_SLOTS];
+    size_t count = 0;
     for (size_t at = 0; at < slide->word_count; at += Whsize_hd(slide->words[at])) {
         value block = Val_hp(slide->words + at);
         if (!is_live(Hd_val(block)) || Tag_val(block) >= No_scan_tag) continue;
-        mlsize_t first = Tag_val(block) == Closure_tag ? Start_env_closinfo(Closinfo_val(block)) : 0;
-        pcompact_redirect_segments(mine, worker, (uint64_t *)&Field(block, first), Wosize_val(block) - first);
+        mlsize_t i = Tag_val(block) == Closure_tag ? Start_env_closinfo(Closinfo_val(block)) : 0;
+        for (; i < Wosize_val(block); i++) {
+            slots[count] = (uint64_t *)&Field(block, i);
+            if ((count += Is_block(Field(block, i))) == PCOMPACT_SLOTS) redirect(worker, slots, &count);
+        }
     }
+    redirect(worker, slots, &count);
 }
 
 static void *redirect_chunks(void *worker) {
-    pcompact_segments mine = heap;
-    for (size_t i; (i = next_chunk++) < heap.segment_count;) redirect_chunk(&mine, (size_t)worker, &heap.slides[i]);
+    for (size_t i; (i = next_chunk++) < heap.segment_count;) redirect_chunk((size_t)worker, &heap.slides[i]);
     return worker;
 }
 

@@ -13,7 +13,7 @@
 #include <stdlib.h>
 
 /* A region of 512 KiB suits a heap of any size that the library takes. */
-enum { REGION_LOG = 16, MAX_WORKERS = 64, MAX_TURNS = 64 };
+enum { REGION_LOG = 16, MAX_WORKERS = 64 };
 
 /* Types of objects, of which those from STRING on have bytes. */
 enum { SYMBOL = 1, CONTINUATION = 10, WEAK_POINTER = 13, BINDING = 14, LINK_CELL = 15, STRING = 16 };
@@ -221,8 +221,7 @@ static size_t worker_count(void) {
 
 /* A thread's part. Where no region is ready another thread has to go on, and may wait for this processor. */
 static void *work(void *handle) {
-    uint32_t how;
-    while ((how = pcompact_work(handle, MAX_TURNS)) == PCOMPACT_TURNS_USED || how == PCOMPACT_NONE_READY) sched_yield();
+    pcompact_work_yielding(handle, sched_yield);
     return NULL;
 }
 

@@ -34,6 +34,7 @@ PLACES = {
     "share/bash-completion/completions/pcompact": 0o644, "share/zsh/site-functions/_pcompact": 0o644,
     "share/fish/vendor_completions.d/pcompact.fish": 0o644, "libexec/pithondlu/installed": 0o644,
     "lib/libpcompact.a": 0o644, "include/pcompact.h": 0o644, "lib/pkgconfig/pcompact.pc": 0o644,
+    **{f"share/doc/pithondlu/{page.name}": 0o644 for page in (TOP / "docs").iterdir()},
 }
 # Prints its version, its words and the settings of the C library.
 SHOWS = """\
@@ -96,7 +97,7 @@ class Installer:
         (copy / "dist").mkdir()
         for it in SCRIPTS:
             shutil.copy(TOP / it, copy)
-        for it in ("share", "c"):
+        for it in ("share", "c", "docs"):
             shutil.copytree(TOP / it, copy / it)
         with (copy / "share" / "pcompact.1").open("a") as page:
             page.write(f'.\\" {name}\n')

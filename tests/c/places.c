@@ -77,26 +77,29 @@ static void slots_are_redirected(uint64_t base, uint32_t unit) {
     check(pcompact_redirect(it.handles, slots, 1, coding) == PCOMPACT_NOT_HELD, "no slot is redirected by a handle that isn't held");
 }
 
+/* More slots than are redirected at once: some lead to each word. */
+enum { MANY = 5 * WORDS + 3 };
+
 /* Slots that lie apart become what they do side by side, and stay without a handle that is held. Few words have slots here. */
 static void slots_apart_are_redirected(void) {
     heap it;
-    uint64_t slots[WORDS], apart[2 * WORDS], *each[WORDS], base = 4096;
+    uint64_t slots[MANY], apart[2 * MANY], *each[MANY], base = 4096;
     pcompact_slot_coding coding = {base, 2 * CELL, DEAD, 3};
     make_heap(&it);
-    for (uint64_t a = 0; a < WORDS; a++) {
-        slots[a] = base + 8 * a;
-        each[a] = &apart[2 * a];
-        apart[2 * a] = apart[2 * a + 1] = slots[a];
+    for (uint64_t i = 0; i < MANY; i++) {
+        slots[i] = base + 8 * (i % WORDS);
+        each[i] = &apart[2 * i];
+        apart[2 * i] = apart[2 * i + 1] = slots[i];
     }
-    check(pcompact_redirect_each(it.handles, each, WORDS, coding) == PCOMPACT_NOT_HELD, "slots apart by no handle");
+    check(pcompact_redirect_each(it.handles, each, MANY, coding) == PCOMPACT_NOT_HELD, "slots apart by no handle");
     check(begin(&it), "begin");
-    check(pcompact_redirect(it.handles, slots, WORDS, coding) == PCOMPACT_SETTLED, "slots side by side");
-    check(pcompact_redirect_each(it.handles, each, WORDS, coding) == PCOMPACT_SETTLED, "slots apart");
+    check(pcompact_redirect(it.handles, slots, MANY, coding) == PCOMPACT_SETTLED, "slots side by side");
+    check(pcompact_redirect_each(it.handles, each, MANY, coding) == PCOMPACT_SETTLED, "slots apart");
     bool same = true, kept = true, behind = true;
-    for (uint64_t a = 0; a < WORDS; a++) {
-        same &= apart[2 * a] == slots[a];
-        kept &= apart[2 * a + 1] == base + 8 * a;
-        behind &= a < 2 * CELL || slots[a] == base + 8 * a;
+    for (uint64_t i = 0; i < MANY; i++) {
+        same &= apart[2 * i] == slots[i];
+        kept &= apart[2 * i + 1] == base + 8 * (i % WORDS);
+        behind &= i % WORDS < 2 * CELL || slots[i] == base + 8 * (i % WORDS);
     }
     check(same, "slots apart become the same");
     check(kept, "what lies between them stays");

@@ -30,7 +30,7 @@ static int compare(const void *one, const void *other) {
 }
 
 static void make_segments(size_t count, size_t workers, size_t most_words, uint64_t tag) {
-    all = (pcompact_segments){slides, count, handles, workers, tag, DEAD, 0};
+    all = (pcompact_segments){slides, count, handles, workers, tag, DEAD};
     for (size_t i = 0; i < count; i++) {
         make_heap(&made[i], 1 + below(most_words), GUARD, (pcompact_settings){3 + (uint32_t)below(3), below(2) * below(64)});
         add_objects(&made[i], (enum kind)below(KINDS));
@@ -57,12 +57,27 @@ static bool is_nothing_held(void) {
 }
 
 /* Slots that lead to each word of each segment, to some around it, and nowhere, and what they must become. */
-static uint64_t slots[MOST_SLOTS], wanted_slots[MOST_SLOTS];
+static uint64_t slots[MOST_SLOTS], wanted_slots[MOST_SLOTS], *pointers[MOST_SLOTS];
 static size_t slot_count;
 
 static void add_slot(uint64_t slot, uint64_t becomes) {
     slots[slot_count] = slot;
     wanted_slots[slot_count++] = becomes;
+}
+
+static void swap(uint64_t *one, uint64_t *other) {
+    uint64_t kept = *one;
+    *one = *other;
+    *other = kept;
+}
+
+/* Mixes the slots of segments in every second heap. */
+static void mix_slots(void) {
+    for (size_t i = below(2) ? slot_count : 0; i > 1; i--) {
+        size_t other = below(i);
+        swap(&slots[i - 1], &slots[other]);
+        swap(&wanted_slots[i - 1], &wanted_slots[other]);
+    }
 }
 
 static void make_slots(void) {
@@ -75,13 +90,16 @@ static void make_slots(void) {
         uint64_t end = base + 8 * parts[i]->word_count, others[] = {base - 8, end, base + 1, end - 1, 0, any_word() | 1};
         for (size_t k = 0; k < 6; k++) add_slot(others[k], others[k]);
     }
+    mix_slots();
 }
 
-/* Each worker redirects its part of the slots. */
+/* Each worker redirects its part of the slots, half of them by pointers, the last first. */
 static void *redirect(void *worker) {
-    pcompact_segments mine = all;
     size_t w = (size_t)worker, from = slot_count * w / all.worker_count, end = slot_count * (w + 1) / all.worker_count;
-    return (void *)(uintptr_t)pcompact_redirect_segments(&mine, w, slots + from, end - from);
+    size_t middle = from + (end - from) / 2;
+    for (size_t i = middle; i < end; i++) pointers[i] = &slots[middle + end - 1 - i];
+    uint32_t how = pcompact_redirect_segments(&all, w, slots + from, middle - from);
+    return (void *)(uintptr_t)(how | pcompact_redirect_segments_each(&all, w, pointers + middle, end - middle));
 }
 
 static void *work(void *worker) {

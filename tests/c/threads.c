@@ -5,6 +5,7 @@
 #include "pcompact.h"
 #include "refusing_heap.h"
 #include <pthread.h>
+#include <sched.h>
 #include <stdbool.h>
 #include <stdio.h>
 #include <stdlib.h>
@@ -119,6 +120,17 @@ static void *work_in_turns(void *handle) {
     return (void *)(uintptr_t)how;
 }
 
+static _Atomic size_t yields;
+
+static int yield(void) {
+    yields++;
+    return sched_yield();
+}
+
+static void *work_yielding(void *handle) {
+    return (void *)(uintptr_t)pcompact_work_yielding(handle, yield);
+}
+
 /* The first worker doesn't work: the end does what is left. */
 static void *stay_idle(void *handle) {
     (void)handle;
@@ -204,6 +216,9 @@ static void refuse_handles_of_none(void) {
     memset(handles, 0, sizeof handles);
     check(pcompact_work(&handles[0], 5) == PCOMPACT_NOT_HELD, "work on a handle that isn't held", 0);
     check(pcompact_work_all(&handles[0]) == PCOMPACT_NOT_HELD, "all work on a handle that isn't held", 0);
+    size_t before_it = yields;
+    check(pcompact_work_yielding(&handles[0], yield) == PCOMPACT_NOT_HELD, "yielding work on a handle that isn't held", 0);
+    check(yields == before_it, "work on a handle that isn't held yields", yields);
     refuse_end("an end of handles that aren't held", handles, 3);
     refuse_end("an end of no handles", handles, 0);
     refuse_begin("a begin of no handles", &before[0], handles, 0, 12);
@@ -292,6 +307,7 @@ int main(void) {
         for (size_t i = 0; i < sizeof workers / sizeof *workers; i++) {
             collect_by_threads(kind, workers[i], work_all, work_all);
             collect_by_threads(kind, workers[i], work_in_turns, work_in_turns);
+            collect_by_threads(kind, workers[i], work_yielding, work_yielding);
             collect_by_threads(kind, workers[i], stay_idle, work_in_turns);
             collect_in_turns(kind, workers[i]);
         }

@@ -190,10 +190,10 @@ def try_terminal(tried: Tried) -> None:
             tried.is_wrong(f"map on a terminal of {names}: {shown!r}")
 
 
-# By the columns and lines of a terminal: the cells of a row, the rows of a strip, and those with `--after`.
+# By the columns and lines of a terminal, 0 where it doesn't say: the cells of a row, the rows of a strip, and those with `--after`.
 TERMINALS = (
     (120, 40, 100, 17, 8), (37, 25, 17, 10, 5), (36, 24, 16, 9, 4), (35, 9, 16, 2, 1), (21, 8, 16, 1, 1), (20, 7, 16, 1, 1),
-    (3, 6, 16, 1, 1), (1, 1, 16, 1, 1),
+    (3, 6, 16, 1, 1), (1, 1, 16, 1, 1), (0, 0, 60, 8, 8),
 )
 
 
@@ -207,7 +207,7 @@ def try_sizes(tried: Tried) -> None:
         for option, height in zip(("", " --after"), rows):
             words = f"map heap --letters --no-color{option}"
             status, shown = on_terminal(tried, words, "stdout", env={**os.environ, "COLUMNS": str(columns), "LINES": str(lines)})
-            is_fit = height == 1 or shown.count("\n") < lines
+            is_fit = height == 1 or lines == 0 or shown.count("\n") < lines
             if (status, shown) != (0, collection.map(cells, bool(option), height)) or not is_fit:
                 tried.is_wrong(f"{words}, on a terminal of {columns} columns and {lines} lines: {shown}")
 

@@ -39,11 +39,16 @@ Options:
   -h, --help     Print help
   -V, --version  Print version
 
+Streams:
+  -  for a file: standard input where it is read, standard output where written
+
 Exit status:
-  0  success, also of help and version
-  1  a fault, images that differ, a bad dump or text; standard error says which
-  2  invalid usage; standard error says why
-  3  of compare alone: not comparable; its 1 is a broken order or a hole
+  0    success, also of help and version
+  1    a fault, images that differ, a bad dump or text; standard error says why
+  2    invalid usage; standard error says why
+  3    of compare alone: not comparable; its 1 is a broken order or a hole
+  130  interrupted by Ctrl-C; other signals end it by 128 and their number
+  141  nobody reads standard output
 """
 
 BOARD_HELP = """\
@@ -65,13 +70,14 @@ Print the plan of a collection, region by region
 Usage: pcompact summary [OPTIONS] <IMAGE>
 
 Arguments:
-  <IMAGE>  A heap image
+  <IMAGE>  A heap image; - is standard input
 
 Options:
       --heading         Print column names even if output is no terminal
       --region-log <k>  Read IMAGE with regions of 2^k words, k from 3 to 20
       --allowance <m>   Read IMAGE as if its prefix might keep m dead words
       --json            Print a JSON object
+      --progress        Show progress (or --progress=WHEN: auto, always, never)
   -v, --verbose         Print details of errors (default; --verbose=never: none)
   -h, --help            Print help
 
@@ -85,8 +91,8 @@ Collect a heap image and write the compacted one
 Usage: pcompact collect [OPTIONS] <IMAGE> <OUT>
 
 Arguments:
-  <IMAGE>  A heap image
-  <OUT>    Where to write the compacted image
+  <IMAGE>  A heap image; - is standard input
+  <OUT>    Where to write the compacted image; - is standard output
 
 Options:
   -w, --workers <n>     Worker threads, from 1 to 64 (default: the processors)
@@ -109,9 +115,9 @@ Collect a heap image and record what each worker does
 Usage: pcompact record [OPTIONS] <IMAGE> <OUT> <SCHEDULE>
 
 Arguments:
-  <IMAGE>     A heap image
-  <OUT>       Where to write the compacted image
-  <SCHEDULE>  Where to write the schedule of the workers
+  <IMAGE>     A heap image; - is standard input
+  <OUT>       Where to write the compacted image; - is standard output
+  <SCHEDULE>  Where to write the schedule; - is standard output
 
 Options:
   -w, --workers <n>     Worker threads, from 1 to 64 (default: the processors)
@@ -134,8 +140,8 @@ Replay a schedule word by word and print it with all replies
 Usage: pcompact replay [OPTIONS] <IMAGE> <SCHEDULE>
 
 Arguments:
-  <IMAGE>     A heap image
-  <SCHEDULE>  A schedule for the image
+  <IMAGE>     A heap image; - is standard input
+  <SCHEDULE>  A schedule for the image; - is standard input
 
 Options:
       --region-log <k>  Read IMAGE with regions of 2^k words, k from 3 to 20
@@ -154,12 +160,13 @@ Print how many workers a collection can keep busy
 Usage: pcompact order [OPTIONS] <IMAGE>
 
 Arguments:
-  <IMAGE>  A heap image
+  <IMAGE>  A heap image; - is standard input
 
 Options:
       --region-log <k>  Read IMAGE with regions of 2^k words, k from 3 to 20
       --allowance <m>   Read IMAGE as if its prefix might keep m dead words
       --json            Print a JSON object
+      --progress        Show progress (or --progress=WHEN: auto, always, never)
   -v, --verbose         Print details of errors (default; --verbose=never: none)
   -h, --help            Print help
 
@@ -173,11 +180,12 @@ Print a heap image as text
 Usage: pcompact text [OPTIONS] <IMAGE>
 
 Arguments:
-  <IMAGE>  A heap image
+  <IMAGE>  A heap image; - is standard input
 
 Options:
-  -v, --verbose  Print details of errors (default; --verbose=never: none)
-  -h, --help     Print help
+      --progress  Show progress (or --progress=WHEN: auto, always, never)
+  -v, --verbose   Print details of errors (default; --verbose=never: none)
+  -h, --help      Print help
 
 Example:
   pcompact text heap.pcheap
@@ -189,13 +197,14 @@ Convert a heap text to a heap image
 Usage: pcompact assemble [OPTIONS] <TEXT> <IMAGE>
 
 Arguments:
-  <TEXT>   A heap text
-  <IMAGE>  Where to write the image
+  <TEXT>   A heap text; - is standard input
+  <IMAGE>  Where to write the image; - is standard output
 
 Options:
-      --atomic   Replace files only once the command has succeeded
-  -v, --verbose  Print details of errors (default; --verbose=never: none)
-  -h, --help     Print help
+      --atomic    Replace files only once the command has succeeded
+      --progress  Show progress (or --progress=WHEN: auto, always, never)
+  -v, --verbose   Print details of errors (default; --verbose=never: none)
+  -h, --help      Print help
 
 Example:
   pcompact assemble heap.txt heap.pcheap
@@ -207,7 +216,7 @@ Draw a heap image, also as its collection leaves it
 Usage: pcompact map [OPTIONS] <IMAGE>
 
 Arguments:
-  <IMAGE>  A heap image
+  <IMAGE>  A heap image; - is standard input
 
 Options:
       --after           Also draw the heap after its collection
@@ -220,6 +229,7 @@ Options:
       --color           Use colours (or --color=WHEN: auto, always, never)
       --no-color        Never use colours
       --atomic          Replace files only once the command has succeeded
+      --progress        Show progress (or --progress=WHEN: auto, always, never)
   -v, --verbose         Print details of errors (default; --verbose=never: none)
   -h, --help            Print help
 
@@ -233,8 +243,8 @@ Draw which worker has which region along the lines of a schedule
 Usage: pcompact timeline [OPTIONS] <IMAGE> <SCHEDULE>
 
 Arguments:
-  <IMAGE>     A heap image
-  <SCHEDULE>  A schedule for the image
+  <IMAGE>     A heap image; - is standard input
+  <SCHEDULE>  A schedule for the image; - is standard input
 
 Options:
       --width <n>       Cells of a lane, 1 to 1000 (default: what fits, or 64)
@@ -246,6 +256,7 @@ Options:
       --color           Use colours (or --color=WHEN: auto, always, never)
       --no-color        Never use colours
       --atomic          Replace files only once the command has succeeded
+      --progress        Show progress (or --progress=WHEN: auto, always, never)
   -v, --verbose         Print details of errors (default; --verbose=never: none)
   -h, --help            Print help
 
@@ -260,8 +271,8 @@ Compare a heap image with the compaction of another
 Usage: pcompact verify [OPTIONS] <BEFORE> <AFTER>
 
 Arguments:
-  <BEFORE>  The image before its collection
-  <AFTER>   The image to compare with its compaction
+  <BEFORE>  The image before its collection; - is standard input
+  <AFTER>   The image to compare with its compaction; - is standard input
 
 Options:
       --explain         Say which words differ and where references lead
@@ -284,8 +295,8 @@ Convert a heap image to version 2 or 3, with roots
 Usage: pcompact upgrade [OPTIONS] <IMAGE> <OUT>
 
 Arguments:
-  <IMAGE>  A heap image
-  <OUT>    Where to write the upgraded image
+  <IMAGE>  A heap image; - is standard input
+  <OUT>    Where to write the upgraded image; - is standard output
 
 Options:
       --to <v>    Version of the upgraded image, from 2 to 3 (default 2)
@@ -304,8 +315,8 @@ Convert the heap dump of a Java virtual machine to a heap image
 Usage: pcompact import [OPTIONS] <DUMP> <IMAGE>
 
 Arguments:
-  <DUMP>   A heap dump
-  <IMAGE>  Where to write the image
+  <DUMP>   A heap dump; - is standard input
+  <IMAGE>  Where to write the image; - is standard output
 
 Options:
       --region-log <k>  Regions have 2^k words, k from 3 to 20 (default 9)
@@ -324,6 +335,7 @@ Options:
 Example:
   jcmd PID GC.heap_dump -all /tmp/heap.hprof
   pcompact import /tmp/heap.hprof heap.pcheap
+  gunzip -c heap.hprof.gz | pcompact import - heap.pcheap
 """
 
 COMPARE_HELP = """\
@@ -332,8 +344,8 @@ Compare the heap dumps before and after a collection
 Usage: pcompact compare [OPTIONS] <BEFORE> <AFTER>
 
 Arguments:
-  <BEFORE>  A heap dump before the collection
-  <AFTER>   A heap dump of the same machine after it
+  <BEFORE>  A heap dump before the collection; - is standard input
+  <AFTER>   A heap dump of the same machine after it; - is standard input
 
 Options:
       --explain   List holes, changed data and conflicts, too
@@ -356,7 +368,7 @@ Usage: pcompact generate [OPTIONS] --words <n> --live <share> --region-log <k>
        --seed <s> <IMAGE>
 
 Arguments:
-  <IMAGE>  Where to write the image
+  <IMAGE>  Where to write the image; - is standard output
 
 Options:
       --words <n>       Words of the heap, a multiple of 2^k, at most 2^36
@@ -508,7 +520,7 @@ For more information, try '--help'.
 NO_PROGRESS = """\
 error: unexpected argument '--progress' found
 
-Usage: pcompact summary <IMAGE>
+Usage: pcompact board [OPTIONS]
 
 For more information, try '--help'.
 """
@@ -597,7 +609,7 @@ REFUSED = [
     ("summary heap --color=auto", NO_COLOR),
     ("verify in out --progress=blue", OTHER_PROGRESS),
     ("verify in out --progress --progress=never --progress", PROGRESS_TWICE),
-    ("summary heap --progress=auto", NO_PROGRESS),
+    ("board --progress=auto", NO_PROGRESS),
     ("version", VERSION),
     ("generat out", OTHER_COMMAND),
 ]

@@ -116,7 +116,8 @@ def try_hints(tried: Tried) -> None:
     try_each(tried, "replay base image", told("fault 14 schedule line 1", "file SCHEDULE image",
                                               "reason the line is malformed", "hint it is a heap image"))
     tried.write("image", packed)
-    try_each(tried, "import image out", told(NAME, "file DUMP image", "hint it is packed by gzip, gunzip unpacks it"))
+    try_each(tried, "import image out", told(NAME, "file DUMP image",
+                                             "hint it is packed by gzip, gunzip -c DUMP | pcompact import - IMAGE reads it"))
 
 
 def try_missing(tried: Tried) -> None:

@@ -97,7 +97,8 @@ HEAPS = (
 
 # Its regions are ready at once, and so few that one thread fills all of them while another is started.
 READY = Heap("ready", Phase("none", 1), 1, 3, 512, objects=64, size=8)
-RECORDINGS = 20
+RECORDINGS = 100
+SHARED = 5
 # Here a fill often frees just one region, which the next worker is to take.
 CHAINED = "--words 4096 --live 90 --region-log 6 --seed 1"
 
@@ -147,10 +148,10 @@ def owed(heap: Heap, workers: int, is_pipe: bool) -> Started:
 
 
 def owed_to_look(heap: Heap, processors: int) -> Started:
-    """What `summary` owes, which reads in order and fills nothing."""
-    collected = owed(heap, processors, True)
+    """What `summary` owes, which fills nothing."""
+    collected = owed(heap, processors, False)
     is_looked_at = heap.phase.name in ("marks", "counts")
-    return Started(0, collected.check, heap.phase.starts(processors) if is_looked_at else 0)
+    return Started(collected.reading, collected.check, heap.phase.starts(processors) if is_looked_at else 0)
 
 
 class Counted:
@@ -190,20 +191,21 @@ class Counted:
                      preexec_fn=lambda: os.sched_setaffinity(0, allowed))
 
     def try_together(self) -> None:
-        """The workers of `record` begin together: of a small heap several have a share in nearly all recordings, and in some where
-        other programs keep the processors busy."""
+        """The workers of `record` begin together: of a small heap several have a share in nearly all recordings, and now and then
+        where other programs keep the processors busy. Workers that don't wait for each other have hardly ever one."""
         if len(os.sched_getaffinity(0)) < 2:
             print("there is one processor, and whether workers begin together is left out")
             return
         (self.room / READY.name).write_bytes(READY.text())
         self.count += 1
-        shared = 0
-        for _ in range(RECORDINGS):
+        shared = recordings = 0
+        while shared < SHARED and recordings < RECORDINGS:
+            recordings += 1
             subprocess.run([self.program, *f"record {READY.name} out schedule --workers 4".split()], check=True, cwd=self.room,
                            stdout=subprocess.DEVNULL)
             claims = re.findall(r"(?m)^(\d+) claim \d+ yes$", (self.room / "schedule").read_text())
             shared += len(set(claims)) > 1
-        if 4 * shared < RECORDINGS:
+        if shared < SHARED:
             self.wrong += 1
             print(f"in {shared} of {RECORDINGS} recordings by 4 workers several have a share")
 

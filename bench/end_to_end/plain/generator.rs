@@ -244,7 +244,7 @@ pub fn generate(asked: &Asked) -> Image {
         Shape::Last => asked.words as u64 - 2,
         _ => 0,
     };
-    let mut image = Image { version: asked.version, region_log: asked.region_log, allowance, words, live, roots: None };
+    let mut image = Image { version: asked.version, region_log: asked.region_log, allowance, words, live, roots: None, marks: Bits::new(0) };
     if asked.version > 1 {
         image.roots = Some(roots_of(&image, &mut random));
     }

@@ -7,6 +7,7 @@ mod image;
 mod laps;
 mod marking;
 mod marks;
+mod prefetch;
 mod process;
 
 use std::fs::File;
@@ -29,7 +30,7 @@ const USAGE: &str = "usage:
 
 fn copy(from: &str, to: &str) -> io::Result<()> {
     let (mut reader, mut writer) = (File::open(from)?, File::create(to)?);
-    let mut buffer = vec![0; image::ROOM];
+    let mut buffer = vec![0; 1 << 16];
     loop {
         match reader.read(&mut buffer)? {
             0 => return Ok(()),
@@ -82,7 +83,7 @@ fn generate(out: &str, words: &[String]) -> Option<Result<(), image::Fault>> {
     };
     let image = generator::generate(&wanted);
     tell(&image);
-    Some(File::create(out).map_err(image::Fault::from).and_then(|file| image::write(&image, file)))
+    Some(File::create(out).map_err(image::Fault::from).and_then(|file| image::write(&image, image.words.len(), file)))
 }
 
 fn run(words: &[String]) -> Option<Result<(), image::Fault>> {

@@ -1,10 +1,13 @@
-//! Mark bits, one a word, and the number of marked words before each 64.
+//! Mark bits, one a place, and the number of marked places before each 64.
+use crate::prefetch::fetch;
 
+#[derive(Clone)]
 pub struct Bits(Vec<u64>);
 
 impl Bits {
-    pub fn new(len: usize) -> Bits {
-        Bits(vec![0; len / 64 + 1])
+    /// No marks, with room for places up to `last`.
+    pub fn new(last: usize) -> Bits {
+        Bits(vec![0; last / 64 + 1])
     }
 
     pub fn contains(&self, i: u64) -> bool {
@@ -17,14 +20,15 @@ impl Bits {
 
     /// Marks a place, and says whether it was unmarked.
     pub fn mark(&mut self, i: usize) -> bool {
-        let was = self.contains(i as u64);
-        self.insert(i);
-        !was
+        let word = &mut self.0[i / 64];
+        let was = *word;
+        *word = was | 1 << (i % 64);
+        *word != was
     }
 
     /// The marked places, ascending.
     pub fn places(&self) -> Vec<u64> {
-        let mut places = Vec::new();
+        let mut places = Vec::with_capacity(self.0.iter().map(|word| word.count_ones() as usize).sum());
         for (i, &word) in self.0.iter().enumerate() {
             let mut left = word;
             while left != 0 {
@@ -54,29 +58,42 @@ impl Bits {
         let whole: usize = self.0[from / 64..to / 64].iter().map(|word| word.count_ones() as usize).sum();
         whole + below(to) - below(from)
     }
+
+    /// How many places are marked.
+    pub fn len(&self) -> usize {
+        self.0.iter().map(|word| word.count_ones() as usize).sum()
+    }
+}
+
+/// The marks of 64 places, and the number of marked places before them, side by side so that one line of the cache has both.
+#[repr(C, align(16))]
+struct Block {
+    bits: u64,
+    before: u64,
 }
 
 /// Tells of each place how many places below it are marked.
-pub struct Ranks {
-    bits: Bits,
-    before: Vec<u32>,
-}
+pub struct Ranks(Vec<Block>);
 
 impl Ranks {
-    pub fn of(bits: Bits) -> Ranks {
+    pub fn of(bits: &Bits) -> Ranks {
         let mut sum = 0;
-        let before = bits.0.iter().map(|word| {
+        let block = |&bits: &u64| {
             let before = sum;
-            sum += word.count_ones();
-            before
-        });
-        let before = before.collect();
-        Ranks { bits, before }
+            sum += u64::from(bits.count_ones());
+            Block { bits, before }
+        };
+        Ranks(bits.0.iter().map(block).collect())
     }
 
     pub fn rank(&self, i: u64) -> u64 {
-        let word = (i / 64) as usize;
-        let below = self.bits.0[word] & ((1 << (i % 64)) - 1);
-        u64::from(self.before[word] + below.count_ones())
+        let block = &self.0[(i / 64) as usize];
+        let below = block.bits & ((1 << (i % 64)) - 1);
+        block.before + u64::from(below.count_ones())
+    }
+
+    /// Asks for the memory that `rank` reads.
+    pub fn fetch(&self, i: u64) {
+        fetch(&self.0, (i / 64) as usize);
     }
 }

@@ -1,6 +1,6 @@
 //! Times in plain Rust what `codec.rt.txt` times of `mark_from_roots`, over images whose files are named: regions in
-//! blocks of their own; an explicit stack, from which 64 headers are fetched in a row; the live list by words of 64
-//! bits; then the check of the objects that were reached.
+//! blocks of their own; an explicit stack, and a ring of objects that wait for their headers; the live list by words of 64
+//! bits; the check of the objects that were reached.
 #![allow(dead_code)]
 #[path = "../../end_to_end/plain/header.rs"]
 mod header;
@@ -12,10 +12,13 @@ mod laps;
 mod marking;
 #[path = "../../end_to_end/plain/marks.rs"]
 mod marks;
+#[path = "../../end_to_end/plain/prefetch.rs"]
+mod prefetch;
 
-use image::{mark_from_roots, Fault};
+use image::{live_from_roots, Fault};
 use laps::Laps;
 use marking::Heap;
+use prefetch::fetch;
 use std::fs::File;
 use std::time::Instant;
 
@@ -36,6 +39,12 @@ impl Heap for Regions {
     fn row(&self, a: usize, count: usize) -> impl Iterator<Item = u64> {
         (a..a + count).map(|field| self.word(field))
     }
+
+    fn fetch(&self, a: usize) {
+        if let Some(block) = self.blocks.get(a >> self.log) {
+            fetch(block, a & ((1 << self.log) - 1));
+        }
+    }
 }
 
 fn main() -> Result<(), Fault> {
@@ -46,7 +55,7 @@ fn main() -> Result<(), Fault> {
         let roots = image.roots.unwrap_or_default();
 
         let start = Instant::now();
-        let live = mark_from_roots(&heap, &roots)?;
+        let (live, _) = live_from_roots(&heap, &roots)?;
         let nanoseconds = start.elapsed().as_nanos();
         let seen = live.iter().fold(live.len() as u64, |seen, a| seen.rotate_left(1) ^ a);
         println!("{name} {nanoseconds} {seen}");

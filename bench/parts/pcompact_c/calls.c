@@ -1,4 +1,5 @@
-/* Times collections by the library for C. Prints the nanoseconds of each, one round a line.
+/* Times collections by the library for C. Prints the nanoseconds of each, one round a line: of the whole, and by threads then of
+ * its begin, of the work and of its end.
  *
  *     calls copy IMAGE OUT THREADS ROUNDS    each round collects a fresh heap by a call that copies it or, if THREADS isn't 0, by
  *                                            so many threads over a copy; the last one's image is written
@@ -129,15 +130,25 @@ static void *work(void *handle) {
     return NULL;
 }
 
+/* When something began and ended. */
+typedef struct times {
+    uint64_t begun, ended;
+} times;
+
+/* The work of the last collection by threads. */
+static times work_times;
+
 /* Starts all workers once a begin had this fault. The calling thread is one of them. */
 static void work_by(pcompact_fault begun, pcompact_handle *handles, size_t thread_count) {
     pthread_t threads[MAX_THREADS];
     if (begun.number != 0) fail_by(begun);
+    work_times.begun = now();
     for (size_t i = 1; i < thread_count; i++) {
         if (pthread_create(&threads[i], NULL, work, &handles[i]) != 0) fail("a thread can't be started");
     }
     work(&handles[0]);
     for (size_t i = 1; i < thread_count; i++) pthread_join(threads[i], NULL);
+    work_times.ended = now();
 }
 
 static uint32_t collect_copy_by(heap *it, pcompact_words *parts, size_t thread_count, pcompact_answer *answer) {
@@ -189,13 +200,22 @@ static const struct way *way_of(const char *name) {
     return NULL;
 }
 
-static uint64_t time_one(const struct way *by, heap *it, pcompact_words *parts, size_t thread_count) {
+static times time_one(const struct way *by, heap *it, pcompact_words *parts, size_t thread_count) {
     pcompact_answer answer;
-    uint64_t begun = now();
+    times whole = {.begun = now()};
     uint32_t fault = thread_count == 0 ? by->collect(it, parts, &answer) : by->collect_by(it, parts, thread_count, &answer);
-    uint64_t ended = now();
+    whole.ended = now();
     if (fault != 0) fail_by(answer.fault);
-    return ended - begun;
+    return whole;
+}
+
+static void print_times(times whole, bool has_work) {
+    printf("%" PRIu64, whole.ended - whole.begun);
+    if (has_work) {
+        printf(" %" PRIu64 " %" PRIu64 " %" PRIu64, work_times.begun - whole.begun, work_times.ended - work_times.begun,
+               whole.ended - work_times.ended);
+    }
+    putchar('\n');
 }
 
 static void time_heap(const struct way *by, char **words) {
@@ -204,7 +224,7 @@ static void time_heap(const struct way *by, char **words) {
     pcompact_words *parts = room_for(sizeof *parts * (first.shape.word_count >> first.shape.settings.region_log));
     for (size_t round = 0; round < rounds; round++) {
         copy_heap(&it, &first);
-        printf("%" PRIu64 "\n", time_one(by, &it, parts, thread_count));
+        print_times(time_one(by, &it, parts, thread_count), thread_count > 0);
     }
     write_heap(&it, words[1]);
     free(parts);
@@ -231,8 +251,8 @@ static void time_small(const struct way *by, size_t rounds) {
     for (size_t round = 0; round < rounds; round++) {
         copy_heap(&one, &live);
         copy_heap(&other, &rooted);
-        uint64_t with_list = time_one(by, &one, parts, 0);
-        printf("%" PRIu64 " %" PRIu64 "\n", with_list, time_one(by, &other, parts, 0));
+        times listed = time_one(by, &one, parts, 0), with_roots = time_one(by, &other, parts, 0);
+        printf("%" PRIu64 " %" PRIu64 "\n", listed.ended - listed.begun, with_roots.ended - with_roots.begun);
     }
     free_heap(&live);
     free_heap(&rooted);

@@ -13,9 +13,10 @@ processes of their own. For each heap it prints the least times of
   and the collection alone;
 - the phases of the plain program, all but reading and writing files.
 
-Then the same by four threads of a C program, each with a handle, and by four workers inside `pcompact`; the calls on a heap
-of 64 words; and the size of the library without symbols. The lines say which goals are kept. Ends with status 1 where one
-is missed, or where two programs left different images. A second run with the same scratch folder builds only what has changed.
+Then the same by four threads of a C program, each with a handle, which share the work between begin and end: beside one call,
+and beside four workers inside `pcompact`; the calls on a heap of 64 words; and the size of the library without symbols. The
+lines say which goals are kept. Ends with status 1 where one is missed, or where two programs left different images. A second
+run with the same scratch folder builds only what has changed.
 
 All processes get huge pages from the C library as the script `pcompact` asks for them, unless the environment sets
 GLIBC_TUNABLES: empty, it shows what a host feels that asks for none.
@@ -47,6 +48,8 @@ KINDS = {1: "live list", 2: "roots"}
 # The ways of `calls.c`, and what they are called here.
 WAYS = {"place": "in place", "lent": "lent", "copy": "by copy"}
 THREADS = 4
+# The phases of a collection by threads. All of them share the second, and one has the others.
+PHASES = ("begin", "work", "end")
 # How often a process collects a fresh copy of the heap.
 COPIES = 3
 
@@ -96,7 +99,8 @@ class Programs:
         return [line.split() for line in done.stdout.splitlines()]
 
     def by_c(self, way: str, threads: int) -> dict[str, float]:
-        return {"whole": min(int(time) for [time] in self.lines(self.calls, way, "image", f"by-{way}", threads, COPIES))}
+        times = [tuple(map(int, words)) for words in self.lines(self.calls, way, "image", f"by-{way}", threads, COPIES)]
+        return {part: min(column) for part, column in zip(("whole", *PHASES), zip(*times))}
 
     def by_pcompact(self, workers: int) -> dict[str, float]:
         times = [tuple(map(int, words)) for words in self.lines(self.inside, workers, COPIES)]
@@ -164,9 +168,11 @@ def tell_heap(heap: Heap, least: dict[str, dict[str, float]], goals: Goals) -> N
 def tell_threads(least: dict[str, dict[str, float]], goals: Goals) -> None:
     workers = least["workers"]["whole"]
     for way, words in WAYS.items():
-        threads = least[f"{way} threads"]["whole"]
-        print(f"  {THREADS} threads {words}, {milliseconds(threads)}, to {THREADS} workers inside pcompact, {milliseconds(workers)}: "
-              f"{goals.verdict(threads / workers, BY_FOUR)}", flush=True)
+        found = least[f"{way} threads"]
+        threads = found["whole"]
+        phases = ", ".join(f"{phase} {milliseconds(found[phase])}" for phase in PHASES)
+        print(f"  {THREADS} threads {words}, {milliseconds(threads)} ({phases}): to one call {threads / least[way]['whole']:.2f}; to "
+              f"{THREADS} workers inside pcompact, {milliseconds(workers)}, {goals.verdict(threads / workers, BY_FOUR)}", flush=True)
 
 
 def tell_small(programs: Programs, goals: Goals) -> None:

@@ -4,6 +4,5 @@ pub mod Lent
 pub mod Markings
 pub mod Parts
 pub mod Slots
-pub mod Places
 pub mod PlannedSlides
 pub mod Slides

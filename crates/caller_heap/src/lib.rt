@@ -27,4 +27,4 @@ pub use part::{Origin, Part, boxed_parts};
 pub use planned_slide::PlannedSlide;
 pub use reading::image_of_heap;
 pub use settings::HeapSettings;
-pub use slots::{Places, SlotCoding, redirect_slots};
+pub use slots::{SlotCoding, redirect_slots};

@@ -18,7 +18,7 @@ ghost use Rattle.caller_heap.specs.declared.part.Origin.{Origin};
 
 use crate::lent_collection::suits;
 use crate::planned_slide::PlannedSlide;
-use crate::slots::{Places, SlotCoding, redirect_slots};
+use crate::slots::{SlotCoding, redirect_slots};
 use coded_marking::{CodedHeap, Marking};
 use coded_redirection::redirect_objects;
 use collector::{NewPlace, Progress, Refusal, Session, Share};
@@ -27,6 +27,7 @@ use object_coding::ObjectCoding;
 use scheduler::MAX_WORKERS;
 use std::alloc::{AllocError, Global};
 use std::mem;
+use summary::WordPlaces;
 
 /// Where a collection has its words.
 #[derive(Clone, Copy, PartialEq, Eq)]
@@ -82,7 +83,7 @@ impl Part {
         ensures slide { IfSome (planned_in self.now.share self.now.slide) (λ image. IsNewPlace image address result) }
     {
         match self.places() {
-            Some(places) => places.new_place(address),
+            Some(places) => NewPlace::of(&places, address),
             None => NewPlace::Outside,
         }
     }
@@ -115,13 +116,13 @@ impl Part {
     }
 
     /// What knows where words go.
-    fn places(&self) -> Option<Places<'_>>
+    fn places(&self) -> Option<WordPlaces<'_>>
         ensures share { IfSome self.now.share (λ share. result ≡ Some (image_of share)) }
         ensures slide { IfNone self.now.share (result ≡ self.now.slide) }
     {
         match (&self.share, &self.slide) {
-            (Some(share), _) => Some(Places::of_share(share)),
-            (None, Some(planned)) => Some(Places::of_slide(planned.slide())),
+            (Some(share), _) => Some(share.places()),
+            (None, Some(planned)) => Some(planned.slide().places()),
             (None, None) => None,
         }
     }

@@ -1,14 +1,12 @@
 //! Redirects the references in a host's words.
 ghost use Rattle.std.specs.Prelude.{◌≡◌, ◌+◌, ◌<◌, ◌≤◌, ℕ, true, false, MatchOption, if◌then◌else◌, length, slice_index};
-ghost use Rattle.object_heap.specs.HeapImage.{is_live_word};
 ghost use Rattle.mark_bitmap.specs.Marks.{is_begin};
-ghost use Rattle.summary.specs.WordMoves.{slid};
 ghost use Rattle.coded_redirection.specs.References.{is_reference_in, redirected_reference, redirected_words};
 
 use object_coding::ObjectCoding;
-use summary::Survey;
 use summary::laws::plan_laws;
 use summary::laws::plans::planned_image_is_valid;
+use summary::{Survey, WordPlaces};
 
 /// Redirects the references of the planned objects that begin in these words of the heap, from address `first` on: each that
 /// leads to a live word leads to where that goes, and each that leads to another word of the heap becomes `dead`. Headers, words
@@ -28,6 +26,7 @@ pub fn redirect_objects(
     plan_laws();
     let targets = Targets {
         survey,
+        places: survey.plan().word_places(),
         coding,
         dead,
     };
@@ -45,6 +44,8 @@ pub fn redirect_objects(
 #[derive(Drop)]
 struct Targets<'a> {
     survey: &'a Survey,
+    /// Where the words of the survey's plan go.
+    places: WordPlaces<'a>,
     coding: &'a ObjectCoding,
     /// What takes the place of a reference to a word that no live object has.
     dead: u64,
@@ -53,6 +54,7 @@ struct Targets<'a> {
 impl<'a> Targets<'a> {
     /// Redirects the references of the planned object at address `a`, in words from address `first` on.
     fn redirect_object(&self, a: u64, first: u64, words: &mut [u64])
+        requires same { self.now.places ≡ self.now.survey.now }
         requires begin { is_begin self.now.survey.now a ≡ true }
         requires above { first ≤ a }
         requires inside { a < first + length words.old }
@@ -73,33 +75,16 @@ impl<'a> Targets<'a> {
     /// The word in place of a reference.
     #[tactic(auto, unfolding(crate::specs::References::redirected_reference))]
     fn redirected(&self, word: u64) -> u64
-        ensures { result ≡ redirected_reference self.now.survey.now self.now.coding.now self.now.dead word }
+        ensures { result ≡ redirected_reference self.now.places self.now.coding.now self.now.dead word }
     {
         plan_laws();
         let reference = self.coding.reference(word);
         if reference == 0 {
             return word;
         }
-        match self.new_place(reference - 1) {
+        match self.places.get(reference - 1) {
             Some(to) => self.coding.redirected(word, to + 1),
             None => self.dead,
-        }
-    }
-
-    /// Where the word at this address goes, if a live object has it.
-    fn new_place(&self, address: u64) -> Option<u64>
-        ensures { MatchOption result (is_live_word self.now.survey.now address ≡ false)
-            (λ to. (is_live_word self.now.survey.now address ≡ true) × (to ≡ slid self.now.survey.now address)) }
-    {
-        plan_laws();
-        planned_image_is_valid(self.survey.plan());
-        let plan = self.survey.plan();
-        if address >= u64::from(plan.regions()) << plan.region_log() {
-            None
-        } else if self.survey.marks().live_words(address, address + 1) == 0 {
-            None
-        } else {
-            Some(plan.new_place(address))
         }
     }
 }

@@ -12,7 +12,7 @@ ghost use Rattle.collector.specs.Slides.{IsNextObject};
 
 use crate::outcome::Figures;
 use crate::session::Session;
-use crate::session::new_place::{NewPlace, place_in};
+use crate::session::new_place::NewPlace;
 use crate::session::room::SessionRoom;
 use crate::session::session_id::SessionId;
 use crate::session::share::Share;
@@ -28,9 +28,9 @@ use scheduler::{MAX_WORKERS, moves_of_images};
 use std::alloc::Global;
 use std::marker::{Brand, Model};
 use std::sync::atomic::{AtomicBool, AtomicUsize};
-use summary::Survey;
 use summary::laws::plans::planned_image_is_valid;
 use summary::laws::region_data::regions_to_fill;
+use summary::{Survey, WordPlaces};
 use thread_row::Alone;
 
 /// A slide of opaque objects that is planned. Nothing has moved, and it has none of their words, which may still change.
@@ -85,7 +85,14 @@ impl Slide {
     pub fn new_place(&self, address: u64) -> NewPlace
         ensures { IsNewPlace self.now address result }
     {
-        place_in(&self.survey, address)
+        NewPlace::of(&self.places(), address)
+    }
+
+    /// Where each word goes, for who asks of many.
+    pub fn places(&self) -> WordPlaces<'_>
+        ensures { result ≡ self.now }
+    {
+        self.survey.plan().word_places()
     }
 
     /// The first address from `from` on at which an object begins.

@@ -27,6 +27,21 @@ pub fn open_image<'a, H: Files>(
     Ok(image.with_shape(shape))
 }
 
+/// Opens a file for its second reading.
+///
+/// Fault 13 if it can't be opened.
+pub fn open_again<'a, H: Files>(
+    host: &H,
+    file: FileWord<'a>,
+) -> Result<Watched<'a, H::File>, Trouble>
+where
+    H::File: SystemFile,
+{
+    let again = Watched::open(host, file)?;
+    again.file().read_again();
+    Ok(again)
+}
+
 /// Opens a file to read, and finds one to write. They may be one file only with `atomic`.
 pub fn input_and_target<'a, H: Files + AllocGlobal>(
     host: &H,

@@ -32,8 +32,8 @@ mod work_done;
 pub use file_target::FileTarget;
 pub use files::{
     both_ended, different_target, ended, image_and_out, input_and_target, must_differ, not_regular,
-    open_image, other_target, output_must_differ, reject_same_file, same_file, target_beside,
-    two_different_inputs, two_inputs,
+    open_again, open_image, other_target, output_must_differ, reject_same_file, same_file,
+    target_beside, two_different_inputs, two_inputs,
 };
 pub use image_and_schedule::ImageAndSchedule;
 pub use late::Late;

@@ -22,6 +22,9 @@ pub trait SystemFile: OpenFile {
 
     /// Says how long a file that is written will be, or 0 if that isn't known. Progress is shown as a share of that.
     fn expect_len(&self, _len: u64) {}
+
+    /// Says that the file is read for the second time, which progress then shows.
+    fn read_again(&self) {}
 }
 
 /// The lock of a file, held until it is dropped.

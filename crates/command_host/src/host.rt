@@ -325,6 +325,12 @@ impl<F: SystemFile + Drop> SystemFile for HostFile<'_, F> {
             gauge.expect_len(len);
         }
     }
+
+    fn read_again(&self) {
+        if let Some(gauge) = &self.gauge {
+            gauge.read_again();
+        }
+    }
 }
 
 /// Where a command prints: to standard output, or to standard error if it may have written standard output as a file. It ends

@@ -1,7 +1,7 @@
 use crate::ahead::{Ahead, heap_words};
 use command_support::Watched;
 use command_times::{Phase, PhaseTimes};
-use heap_image::{Body, BodySize, Failed, Intake, extent_after_front};
+use heap_image::{Body, BodySize, Failed, Intake, all_processors, extent_after_front};
 use std::alloc::Global;
 use std::fs::OpenFile;
 use std::io::{Read, Seek};
@@ -19,9 +19,8 @@ pub struct ImageFile<'a, 't, H, F: Drop> {
     watched: Watched<'a, F>,
     failed: bool,
     ahead: Option<Ahead>,
-    times: &'t PhaseTimes<'t, H>,
-    /// The phase that reads it, which ends when the last bytes have come.
-    phase: Phase,
+    /// The phase that reads it, which ends when the last bytes have come, if times are noted.
+    timed: Option<(&'t PhaseTimes<'t, H>, Phase)>,
 }
 
 impl<'a, 't, H: Clock, F: Drop> ImageFile<'a, 't, H, F> {
@@ -43,14 +42,34 @@ impl<'a, 't, H: Clock, F: Drop> ImageFile<'a, 't, H, F> {
             watched,
             failed: false,
             ahead,
-            times,
-            phase,
+            timed: Some((times, phase)),
+        }
+    }
+
+    /// Reads the body ahead by a thread for each processor, and notes no times.
+    pub fn untimed(host: &H, watched: Watched<'a, F>) -> ImageFile<'a, 't, H, F>
+    where
+        H: AllocGlobal + Threads + Sync,
+        F: OpenFile + FileExt + Sync,
+    {
+        let readers = all_processors(host).most;
+        let ahead = Ahead::read(host.alloc(), &watched, readers, host);
+        ImageFile {
+            watched,
+            failed: false,
+            ahead,
+            timed: None,
         }
     }
 
     /// The number of words of the heap, if the image that was read so far has a sound front.
     pub fn heap_words(&self) -> Option<u64> {
         Some(heap_words(extent_after_front(&self.watched.front())?))
+    }
+
+    /// The file, for what is known of a fault.
+    pub fn watched(&self) -> &Watched<'a, F> {
+        &self.watched
     }
 
     /// The file.
@@ -73,8 +92,9 @@ impl<H: Clock, F: Read + Seek + Drop> Intake for ImageFile<'_, '_, H, F> {
         }
         match self.watched.read(buffer) {
             Ok(n) => {
-                if n > 0 {
-                    self.times.end(self.phase);
+                match self.timed {
+                    Some((times, phase)) if n > 0 => times.end(phase),
+                    _ => {}
                 }
                 Ok(n)
             }

@@ -44,8 +44,8 @@ with_shape_rules app = with_rule (with_rule app region_log_rule) allowance_rule
 -- the definition of `summary`
 abbrev pub summary_words : App
 summary_words =
-    with_rule (with_rule (with_shape_rules (with_rule (with_rule (new_app (codes "summary")) (file_rule (codes "IMAGE")))
-    (flag_rule (codes "heading")))) json_rule) verbose_rule
+    with_rule (with_rule (with_rule (with_shape_rules (with_rule (with_rule (new_app (codes "summary")) (file_rule (codes "IMAGE")))
+    (flag_rule (codes "heading")))) json_rule) progress_rule) verbose_rule
 
 -- the definition of `collect`
 abbrev pub collect_words : App
@@ -149,18 +149,19 @@ generate_words =
 -- the definition of `order`
 abbrev pub order_words : App
 order_words =
-    with_rule (with_rule (with_shape_rules (with_rule (new_app (codes "order")) (file_rule (codes "IMAGE")))) json_rule) verbose_rule
+    with_rule (with_rule (with_rule (with_shape_rules (with_rule (new_app (codes "order")) (file_rule (codes "IMAGE")))) json_rule)
+    progress_rule) verbose_rule
 
 -- the definition of `text`
 abbrev pub text_words : App
 text_words =
-    with_rule (with_rule (new_app (codes "text")) (file_rule (codes "IMAGE"))) verbose_rule
+    with_rule (with_rule (with_rule (new_app (codes "text")) (file_rule (codes "IMAGE"))) progress_rule) verbose_rule
 
 -- the definition of `assemble`
 abbrev pub assemble_words : App
 assemble_words =
-    with_rule (with_rule (with_rule (with_rule (new_app (codes "assemble")) (file_rule (codes "TEXT"))) (file_rule (codes "IMAGE"))) atomic_rule)
-    verbose_rule
+    with_rule (with_rule (with_rule (with_rule (with_rule (new_app (codes "assemble")) (file_rule (codes "TEXT"))) (file_rule (codes "IMAGE")))
+    atomic_rule) progress_rule) verbose_rule
 
 -- the option `--width`, with a number from 1 to 1000
 abbrev pub width_rule : Rule
@@ -177,9 +178,9 @@ svg_rule = record (new_rule (codes "svg")) { long = Some (codes "svg"); value_na
 -- the definition of `map`
 abbrev pub map_words : App
 map_words =
-    with_rule (with_rule (with_rule (with_rule (with_rule (with_shape_rules (with_rule (with_rule (with_rule (with_rule (with_rule
+    with_rule (with_rule (with_rule (with_rule (with_rule (with_rule (with_shape_rules (with_rule (with_rule (with_rule (with_rule (with_rule
     (new_app (codes "map")) (file_rule (codes "IMAGE"))) (flag_rule (codes "after"))) width_rule) height_rule) svg_rule))
-    (flag_rule (codes "letters"))) (flag_rule (codes "color"))) (flag_rule (codes "no-color"))) atomic_rule) verbose_rule
+    (flag_rule (codes "letters"))) (flag_rule (codes "color"))) (flag_rule (codes "no-color"))) atomic_rule) progress_rule) verbose_rule
 
 -- the option `--html`, with a file name
 abbrev pub html_rule : Rule
@@ -188,9 +189,9 @@ html_rule = record (new_rule (codes "html")) { long = Some (codes "html"); value
 -- the definition of `timeline`
 abbrev pub timeline_words : App
 timeline_words =
-    with_rule (with_rule (with_rule (with_rule (with_rule (with_shape_rules (with_rule (with_rule (with_rule (with_rule (with_rule
+    with_rule (with_rule (with_rule (with_rule (with_rule (with_rule (with_shape_rules (with_rule (with_rule (with_rule (with_rule (with_rule
     (new_app (codes "timeline")) (file_rule (codes "IMAGE"))) (file_rule (codes "SCHEDULE"))) width_rule) svg_rule) html_rule))
-    (flag_rule (codes "letters"))) (flag_rule (codes "color"))) (flag_rule (codes "no-color"))) atomic_rule) verbose_rule
+    (flag_rule (codes "letters"))) (flag_rule (codes "color"))) (flag_rule (codes "no-color"))) atomic_rule) progress_rule) verbose_rule
 
 -- the definitions of the commands, in the order of help
 abbrev pub listed : List App

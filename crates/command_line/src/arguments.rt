@@ -2,16 +2,25 @@
 use crate::definition::{Argument, Valued, Values};
 
 /// The image that a command reads.
-pub const IMAGE: Argument = Argument::File("IMAGE", "A heap image");
+pub const IMAGE: Argument = Argument::File("IMAGE", "A heap image; - is standard input");
 
 /// The file for an image.
-pub const NEW_IMAGE: Argument = Argument::File("IMAGE", "Where to write the image");
+pub const NEW_IMAGE: Argument = Argument::File(
+    "IMAGE",
+    "Where to write the image; - is standard output",
+);
 
 /// The file for a compacted image.
-pub const OUT: Argument = Argument::File("OUT", "Where to write the compacted image");
+pub const OUT: Argument = Argument::File(
+    "OUT",
+    "Where to write the compacted image; - is standard output",
+);
 
 /// The schedule that a command reads.
-pub const SCHEDULE: Argument = Argument::File("SCHEDULE", "A schedule for the image");
+pub const SCHEDULE: Argument = Argument::File(
+    "SCHEDULE",
+    "A schedule for the image; - is standard input",
+);
 
 /// The option `--workers`.
 pub const WORKERS: Argument = Argument::ShortValued(

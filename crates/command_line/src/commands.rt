@@ -46,11 +46,16 @@ use verify::Verify;
 const ABOUT: &str = "Parallel mark-compact collection of heap images";
 
 const STATUSES: &str = "\
+Streams:
+  -  for a file: standard input where it is read, standard output where written
+
 Exit status:
-  0  success, also of help and version
-  1  a fault, images that differ, a bad dump or text; standard error says which
-  2  invalid usage; standard error says why
-  3  of compare alone: not comparable; its 1 is a broken order or a hole";
+  0    success, also of help and version
+  1    a fault, images that differ, a bad dump or text; standard error says why
+  2    invalid usage; standard error says why
+  3    of compare alone: not comparable; its 1 is a broken order or a hole
+  130  interrupted by Ctrl-C; other signals end it by 128 and their number
+  141  nobody reads standard output";
 
 /// The definition of the program and its commands.
 pub fn words<'a>(alloc: Global) -> Result<Command<'a>, AllocError>

@@ -86,19 +86,9 @@ fn spell_plainly(
     Mentions::of(option, words).spell(alloc, words)
 }
 
-/// The commands that show progress.
-const SHOWING: [&str; 8] = [
-    "collect", "verify", "record", "replay", "upgrade", "import", "compare", "generate",
-];
-
-/// When progress is shown, by the words of a line. A command without the option `--progress` never shows it.
+/// When progress is shown, by the words of a line.
 pub fn progress_in(words: &[String]) -> When {
-    match words.first() {
-        Some(name) if SHOWING.contains(&name.as_str()) => {
-            Mentions::of("--progress", words).when()
-        }
-        _ => When::Never,
-    }
+    Mentions::of("--progress", words).when()
 }
 
 /// How a line mentions an option. After the word `--` there are no options.

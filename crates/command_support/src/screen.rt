@@ -8,8 +8,11 @@ const NAME_ROOM: usize = 128;
 /// Room for a number of columns or lines, or for the name of a terminal.
 const NUMBER_ROOM: usize = 16;
 
-/// The number of cells of a row without `--width`, where the screen doesn't say how wide it is.
+/// The number of cells of a row without `--width`, where no terminal shows it.
 pub const USUAL_WIDTH: u32 = 64;
+
+/// The number of columns of a terminal that doesn't say how wide it is.
+const USUAL_COLUMNS: u32 = 80;
 
 /// What standard output can show, and whether a person reads standard error.
 #[derive(Clone, Copy)]
@@ -51,12 +54,13 @@ impl Screen {
 
     /// The number of cells of a row: as requested, else as many as a terminal has columns for beside this many others.
     pub fn cells_beside(self, others: u32, requested: Option<u32>) -> u32 {
-        match (requested, self.columns) {
-            (Some(width), _) => width,
-            (None, Some(columns)) if self.is_terminal => {
+        match requested {
+            Some(width) => width,
+            None if self.is_terminal => {
+                let columns = self.columns.unwrap_or(USUAL_COLUMNS);
                 columns.saturating_sub(others).max(16).min(1000)
             }
-            _ => USUAL_WIDTH,
+            None => USUAL_WIDTH,
         }
     }
 }

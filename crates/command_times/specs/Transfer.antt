@@ -1,12 +1,13 @@
 -- How far the reading or writing of a file is, as a line.
 use Rattle.std.specs.Prelude.{ℕ, ◌-◌, ◌*◌, ◌/◌, ◌%◌, ◌==◌, ◌||◌, max, min, if◌then◌else◌, List, ◌++◌, Option, None, Some, codes, decimal}
 use Rattle.command_times.specs.declared.phase.Phase.{Phase}
-use Rattle.command_times.specs.declared.phase.Phase.TheVariants.{Read, Check, Prepare, Fills, CleanUp, Write, Schedule, ReadBefore, CheckBefore, ReadAfter, CheckAfter, Compare}
+use Rattle.command_times.specs.declared.phase.Phase.TheVariants.{Read, ReadAgain, Check, Prepare, Fills, CleanUp, Write, Schedule, ReadBefore, CheckBefore, ReadAfter, CheckAfter, Compare}
 use Rattle.command_times.specs.declared.meter.transfer.Transfer.{Transfer}
 
 -- the name of a phase
 abbrev pub phase_text : Phase → List ℕ
 phase_text Read = codes "read"
+phase_text ReadAgain = codes "read again"
 phase_text Check = codes "check"
 phase_text Prepare = codes "prepare"
 phase_text Fills = codes "fills"

@@ -5,6 +5,8 @@ use std::fmt;
 #[derive(Clone, Copy, PartialEq, Eq)]
 pub enum Phase {
     Read,
+    /// Reading a file for the second time.
+    ReadAgain,
     Check,
     /// Before the first region is filled: marks, plan and cells.
     Prepare,
@@ -22,8 +24,9 @@ pub enum Phase {
 }
 
 /// All phases, in the order in which `--stats` prints them.
-pub(crate) const PHASES: [Phase; 12] = [
+pub(crate) const PHASES: [Phase; 13] = [
     Phase::Read,
+    Phase::ReadAgain,
     Phase::Check,
     Phase::Prepare,
     Phase::Fills,
@@ -46,6 +49,7 @@ impl fmt::Display for Phase {
     fn fmt<W: fmt::Write>(&self, f: &mut fmt::Formatter<W>) -> fmt::Result {
         f.write_str(match self {
             Phase::Read => "read",
+            Phase::ReadAgain => "read again",
             Phase::Check => "check",
             Phase::Prepare => "prepare",
             Phase::Fills => "fills",

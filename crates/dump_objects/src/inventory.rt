@@ -7,6 +7,7 @@ pub(crate) mod classes;
 pub(crate) mod name_ids;
 pub(crate) mod objects;
 mod repeats;
+mod resolution;
 mod sections;
 
 use crate::heap::UnsealedHeap;

@@ -2,7 +2,7 @@ ghost use Rattle.std.specs.Prelude.{IfOk, string_bytes};
 ghost use Rattle.heap_commands.specs.Compare.{IsCompared};
 
 use crate::import::import_files::keep;
-use command_files::{SystemFile, WorkDone, not_regular, same_file};
+use command_files::{SystemFile, WorkDone, not_regular, open_again, same_file};
 use command_line::Compare;
 use command_support::{Failure, FileWord, Role, Trouble, Watched};
 use dump_graph::{DumpGraph, number_classes, read_graph};
@@ -48,7 +48,7 @@ where
         return Err(not_regular(rt.alloc(), word)?);
     }
     if found.is_file() {
-        let mut again = Watched::open(rt, word)?;
+        let mut again = open_again(rt, word)?;
         match read_twice(rt.alloc(), (&mut dump, &mut again)) {
             Ok(graph) => Ok(graph),
             Err(failure) => Err(Trouble::new(failure).if_dump(&dump, &again)),

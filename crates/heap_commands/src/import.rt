@@ -16,7 +16,7 @@ pub mod object_list;
 
 use crate::shared::live_share::live_share;
 use crate::shared::versions::requested_version;
-use command_files::{Late, SystemFile, WorkDone};
+use command_files::{Late, SystemFile, WorkDone, open_again};
 use command_line::Import;
 use command_support::{Failure, Trouble, Watched};
 use command_times::{Laps, LiveShare, Phase, Stats, Stopwatch, TimedIntake, TimedOutlet};
@@ -86,7 +86,7 @@ where
     R::File: SystemFile,
     ensures { IfOk result (λ made. IsImportText wish.rows (string_bytes made.0.text)) }
 {
-    let mut again = Watched::open(rt, dump.word())?;
+    let mut again = open_again(rt, dump.word())?;
     match import_timed(rt, (&mut dump, &mut again), image, wish, watch) {
         Ok(made) => Ok(made),
         Err(failure) => Err(Trouble::new(failure).if_dump(&dump, &again)),

@@ -6,25 +6,26 @@ ghost use Rattle.heap_map.specs.MapFigures.{AreFiguresOf, figures_text};
 ghost use Rattle.heap_commands.specs.Map.{IsDrawing, IsMap, IsMapLine, IsPicture, IsPrinted, after_shown, cells_shown, shape_of};
 
 use command_files::{FileTarget, Late, SystemFile, WorkDone, different_target, open_image};
+use command_host::ImageFile;
 use command_line::{Look, Map};
 use command_support::{FileWord, Role, Screen, Trouble, USUAL_WIDTH, Watched};
-use heap_image::{
-    Fault, FromRead, Image, Intake, Outlet, ToWrite, all_processors, give_all, read_image,
-};
+use heap_image::{Fault, Image, Intake, Outlet, ToWrite, all_processors, give_all, read_image};
 use heap_map::{Glyphs, MapFigures, Picture, Shape, Style};
 use std::alloc::{AllocError, Global};
+use std::os::unix::fs::FileExt;
 use std::rt::Files;
 use std::thread::Threads;
+use std::time::Clock;
 use summary::Survey;
 
 /// Returns what `map` prints of the image in a file. The picture goes to another file where the request names one.
-pub fn answer<'a, R: Files + AllocGlobal + Threads + Sync>(
+pub fn answer<'a, R: Files + AllocGlobal + Threads + Clock + Sync>(
     rt: &R,
     screen: Screen,
     request: Map<'a>,
 ) -> Result<WorkDone<'a>, Trouble>
 where
-    R::File: SystemFile,
+    R::File: FileExt + SystemFile + Sync,
     ensures { IfOk result (λ done. IsMap done.text.items) }
 {
     let width = width_on(screen, &request);
@@ -130,22 +131,25 @@ pub fn style_on(screen: Screen, look: Look) -> Style {
 }
 
 /// Prints the picture of the image in a file.
-fn print<'a, R: Files + AllocGlobal + Threads + Sync>(
+fn print<'a, R: Files + AllocGlobal + Threads + Clock + Sync>(
     rt: &R,
-    mut image: Watched<'a, R::File>,
+    image: Watched<'a, R::File>,
     cut: Cut<'_>,
     style: Style,
 ) -> Result<WorkDone<'a>, Trouble>
+where
+    R::File: FileExt + Sync,
     ensures { IfOk result (λ done. IsMap done.text.items) }
 {
-    match map(rt.alloc(), &mut FromRead::new(&mut image), cut, style, rt) {
+    let mut image = ImageFile::untimed(rt, image);
+    match map(rt.alloc(), &mut image, cut, style, rt) {
         Ok(text) => Ok(WorkDone::printing(text.into_bytes())),
-        Err(fault) => Err(Trouble::from(fault).if_image(&image)),
+        Err(fault) => Err(Trouble::from(fault).if_image(image.watched())),
     }
 }
 
 /// Draws the picture of the image in a file to another file, and prints the figures.
-fn draw<'a, R: Files + AllocGlobal + Threads + Sync>(
+fn draw<'a, R: Files + AllocGlobal + Threads + Clock + Sync>(
     rt: &R,
     image: Watched<'a, R::File>,
     svg: FileWord<'a>,
@@ -153,7 +157,7 @@ fn draw<'a, R: Files + AllocGlobal + Threads + Sync>(
     atomic: bool,
 ) -> Result<WorkDone<'a>, Trouble>
 where
-    R::File: SystemFile,
+    R::File: FileExt + SystemFile + Sync,
     ensures { IfOk result (λ done. IsMap done.text.items) }
 {
     let target = different_target(rt, &image, svg, atomic)?;
@@ -161,27 +165,28 @@ where
 }
 
 /// Draws the picture of the image in a file to this file, and prints the figures.
-fn draw_to<'a, R: Files + AllocGlobal + Threads + Sync>(
+fn draw_to<'a, R: Files + AllocGlobal + Threads + Clock + Sync>(
     rt: &R,
-    mut image: Watched<'a, R::File>,
+    image: Watched<'a, R::File>,
     cut: Cut<'_>,
     target: FileTarget<'a, R::File>,
 ) -> Result<WorkDone<'a>, Trouble>
 where
-    R::File: SystemFile,
+    R::File: FileExt + SystemFile + Sync,
     ensures { IfOk result (λ done. IsMap done.text.items) }
 {
     let mut late = Late::new(rt, target);
+    let mut image = ImageFile::untimed(rt, image);
     let drawing = draw_into(
         rt.alloc(),
-        &mut FromRead::new(&mut image),
+        &mut image,
         &mut ToWrite::new(&mut late),
         cut,
         rt,
     );
     match drawing {
         Ok(MapDrawing { line, .. }) => late.ended(line),
-        Err(fault) => Err(late.failed(Trouble::from(fault).if_image(&image))),
+        Err(fault) => Err(late.failed(Trouble::from(fault).if_image(image.watched()))),
     }
 }
 

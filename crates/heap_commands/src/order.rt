@@ -4,26 +4,32 @@ ghost use Rattle.work_order.specs.WorkOrder.{order_text};
 ghost use Rattle.heap_commands.specs.Order.{IsOrder, IsOrderOf};
 
 use command_files::{WorkDone, open_image};
+use command_host::ImageFile;
 use command_line::Order;
 use command_support::Trouble;
-use heap_image::{Fault, FromRead, Intake, all_processors, read_image};
+use heap_image::{Fault, Intake, all_processors, read_image};
 use std::alloc::{AllocError, Global};
+use std::os::unix::fs::FileExt;
 use std::rt::Files;
 use std::thread::Threads;
+use std::time::Clock;
 use summary::Survey;
 use work_order::WorkOrder;
 
 /// Returns what `order` prints of the image in a file.
-pub fn answer<'a, R: Files + AllocGlobal + Threads + Sync>(
+pub fn answer<'a, R: Files + AllocGlobal + Threads + Clock + Sync>(
     rt: &R,
     request: Order<'a>,
 ) -> Result<WorkDone<'a>, Trouble>
+where
+    R::File: FileExt + Sync,
     ensures { IfOk result (λ done. IsOrder done.text.items) }
 {
-    let mut image = open_image(rt, request.image, request.shape)?;
-    match order(rt.alloc(), &mut FromRead::new(&mut image), rt) {
+    let image = open_image(rt, request.image, request.shape)?;
+    let mut image = ImageFile::untimed(rt, image);
+    match order(rt.alloc(), &mut image, rt) {
         Ok(text) => Ok(WorkDone::printing(text.into_bytes())),
-        Err(fault) => Err(Trouble::from(fault).if_image(&image)),
+        Err(fault) => Err(Trouble::from(fault).if_image(image.watched())),
     }
 }
 

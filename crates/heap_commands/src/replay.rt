@@ -6,21 +6,26 @@ ghost use Rattle.heap_commands.specs.Replay.{IsReplayText, IsReplayOf, end_line}
 ghost use Rattle.heap_commands.specs.Unreplayed.{IsReplayRefused, IsScheduleUnread, IsUnreplayed};
 
 use command_files::{ImageAndSchedule, Opened, WorkDone};
+use command_host::ImageFile;
 use command_line::Replay;
 use command_support::{LineReason, Trouble, Watched};
 use heap_image::{Fault, FromRead, Image, Intake, all_processors, read_image};
 use history::{End, Replayed, explain, read_schedule_from, replay, write_schedule};
 use scheduler::Schedule;
 use std::alloc::{AllocError, Global};
+use std::os::unix::fs::FileExt;
 use std::rt::Files;
 use std::thread::Threads;
+use std::time::Clock;
 use summary::{Plan, Survey};
 
 /// Replays the schedule of one file on the image of another, and returns what `replay` prints.
-pub fn answer<'a, R: Files + AllocGlobal + Threads + Sync>(
+pub fn answer<'a, R: Files + AllocGlobal + Threads + Clock + Sync>(
     rt: &R,
     request: Replay<'a>,
 ) -> Result<WorkDone<'a>, Trouble>
+where
+    R::File: FileExt + Sync,
     ensures { IfOk result (λ done. IsReplayText done.text.items) }
 {
     let inputs = ImageAndSchedule {
@@ -29,17 +34,18 @@ pub fn answer<'a, R: Files + AllocGlobal + Threads + Sync>(
         schedule: request.schedule,
     };
     let Opened {
-        mut image,
+        image,
         mut schedule,
     } = inputs.open(rt)?;
+    let mut image = ImageFile::untimed(rt, image);
     match replay_text(
         rt.alloc(),
-        &mut FromRead::new(&mut image),
+        &mut image,
         &mut FromRead::new(&mut schedule),
         rt,
     ) {
         Ok(text) => Ok(WorkDone::printing(text)),
-        Err(unreplayed) => Err(replay_trouble(unreplayed, &image, &schedule)),
+        Err(unreplayed) => Err(replay_trouble(unreplayed, image.watched(), &schedule)),
     }
 }
 

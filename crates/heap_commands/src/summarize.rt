@@ -4,30 +4,36 @@ ghost use Rattle.heap_image.specs.Refusals.{IsReason};
 ghost use Rattle.heap_commands.specs.Summarize.{IsSummary, IsSummaryOf, heading, summary_of};
 
 use command_files::{WorkDone, open_image};
+use command_host::ImageFile;
 use command_line::Summary;
 use command_support::{Screen, Trouble};
-use heap_image::{Fault, FromRead, Image, Intake, all_processors, read_image};
+use heap_image::{Fault, Image, Intake, all_processors, read_image};
 use std::alloc::Global;
+use std::os::unix::fs::FileExt;
 use std::rt::Files;
 use std::thread::Threads;
+use std::time::Clock;
 use summary::{Plan, Survey};
 
 /// The names of the columns, above their numbers.
 const HEADING: &str = "  region  partial     live     dest    count   source\n";
 
 /// Returns what `summary` prints of the image in a file. A terminal gets the names of the columns.
-pub fn answer<'a, R: Files + AllocGlobal + Threads + Sync>(
+pub fn answer<'a, R: Files + AllocGlobal + Threads + Clock + Sync>(
     rt: &R,
     screen: Screen,
     request: Summary<'a>,
 ) -> Result<WorkDone<'a>, Trouble>
+where
+    R::File: FileExt + Sync,
     ensures { IfOk result (λ done. IsSummary done.text.items) }
 {
-    let mut image = open_image(rt, request.image, request.shape)?;
+    let image = open_image(rt, request.image, request.shape)?;
+    let mut image = ImageFile::untimed(rt, image);
     let headed = (request.heading || screen.is_terminal) && !request.json;
-    match summarize(rt.alloc(), &mut FromRead::new(&mut image), headed, rt) {
+    match summarize(rt.alloc(), &mut image, headed, rt) {
         Ok(text) => Ok(WorkDone::printing(text.into_bytes())),
-        Err(fault) => Err(Trouble::from(fault).if_image(&image)),
+        Err(fault) => Err(Trouble::from(fault).if_image(image.watched())),
     }
 }
 

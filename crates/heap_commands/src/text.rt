@@ -4,25 +4,31 @@ ghost use Rattle.heap_text.specs.Text.{text_of};
 ghost use Rattle.heap_commands.specs.Text.{AreLines, AreLinesOf};
 
 use command_files::{WorkDone, open_image};
+use command_host::ImageFile;
 use command_line::{Shape, Text};
 use command_support::Trouble;
-use heap_image::{Fault, FromRead, Image, Intake, all_processors, read_image};
+use heap_image::{Fault, Image, Intake, all_processors, read_image};
 use heap_text::write_text;
 use std::alloc::Global;
+use std::os::unix::fs::FileExt;
 use std::rt::Files;
 use std::thread::Threads;
+use std::time::Clock;
 
 /// Returns what `text` prints of the image in a file.
-pub fn answer<'a, R: Files + AllocGlobal + Threads + Sync>(
+pub fn answer<'a, R: Files + AllocGlobal + Threads + Clock + Sync>(
     rt: &R,
     request: Text<'a>,
 ) -> Result<WorkDone<'a>, Trouble>
+where
+    R::File: FileExt + Sync,
     ensures { IfOk result (λ done. AreLines done.text.items) }
 {
-    let mut image = open_image(rt, request.image, Shape::unchanged())?;
-    match lines_of(rt.alloc(), &mut FromRead::new(&mut image), rt) {
+    let image = open_image(rt, request.image, Shape::unchanged())?;
+    let mut image = ImageFile::untimed(rt, image);
+    match lines_of(rt.alloc(), &mut image, rt) {
         Ok(lines) => Ok(WorkDone::printing(lines)),
-        Err(fault) => Err(Trouble::from(fault).if_image(&image)),
+        Err(fault) => Err(Trouble::from(fault).if_image(image.watched())),
     }
 }
 

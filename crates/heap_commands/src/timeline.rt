@@ -14,6 +14,7 @@ use command_files::{
     FileTarget, ImageAndSchedule, Late, Opened, SystemFile, WorkDone, different_target,
     output_must_differ, reject_same_file,
 };
+use command_host::ImageFile;
 use command_line::Timeline;
 use command_support::{Failure, FileWord, Role, Screen, Trouble};
 use heap_image::{
@@ -23,8 +24,10 @@ use heap_map::Style;
 use schedule_timeline::Names;
 use scheduler::Schedule;
 use std::alloc::{AllocError, Global};
+use std::os::unix::fs::FileExt;
 use std::rt::Files;
 use std::thread::Threads;
+use std::time::Clock;
 use summary::Survey;
 
 /// The number of columns that a lane's name and edges take.
@@ -32,13 +35,13 @@ const BESIDE_LANES: u32 = 12;
 
 /// Follows the schedule of one file on the image of another, and returns what `timeline` prints. A drawing or a page
 /// goes to a third file where the request names one.
-pub fn answer<'a, R: Files + AllocGlobal + Threads + Sync>(
+pub fn answer<'a, R: Files + AllocGlobal + Threads + Clock + Sync>(
     rt: &R,
     screen: Screen,
     request: Timeline<'a>,
 ) -> Result<WorkDone<'a>, Trouble>
 where
-    R::File: SystemFile,
+    R::File: FileExt + SystemFile + Sync,
     ensures { IfOk result (λ done. IsTimeline done.text.items) }
 {
     let inputs = ImageAndSchedule {
@@ -100,30 +103,28 @@ fn two_pictures(alloc: Global) -> Result<Trouble, AllocError> {
 }
 
 /// Prints the lanes of the schedule in a file.
-fn print_lanes<'a, R: Files + AllocGlobal + Threads + Sync>(
+fn print_lanes<'a, R: Files + AllocGlobal + Threads + Clock + Sync>(
     rt: &R,
     inputs: ImageAndSchedule<'a>,
     lanes: Lanes,
 ) -> Result<WorkDone<'a>, Trouble>
+where
+    R::File: FileExt + Sync,
     ensures { IfOk result (λ done. IsTimeline done.text.items) }
 {
     let Opened {
-        mut image,
+        image,
         mut schedule,
     } = inputs.open(rt)?;
-    match lanes_text(
-        rt,
-        &mut FromRead::new(&mut image),
-        &mut FromRead::new(&mut schedule),
-        lanes,
-    ) {
+    let mut image = ImageFile::untimed(rt, image);
+    match lanes_text(rt, &mut image, &mut FromRead::new(&mut schedule), lanes) {
         Ok(text) => Ok(WorkDone::printing(text.into_bytes())),
-        Err(unreplayed) => Err(replay_trouble(unreplayed, &image, &schedule)),
+        Err(unreplayed) => Err(replay_trouble(unreplayed, image.watched(), &schedule)),
     }
 }
 
 /// Writes a drawing or a page of the schedule in a file to another file, and prints the figures.
-fn write_picture<'a, R: Files + AllocGlobal + Threads + Sync>(
+fn write_picture<'a, R: Files + AllocGlobal + Threads + Clock + Sync>(
     rt: &R,
     inputs: ImageAndSchedule<'a>,
     wanted: Wanted<'_>,
@@ -131,7 +132,7 @@ fn write_picture<'a, R: Files + AllocGlobal + Threads + Sync>(
     atomic: bool,
 ) -> Result<WorkDone<'a>, Trouble>
 where
-    R::File: SystemFile,
+    R::File: FileExt + SystemFile + Sync,
     ensures { IfOk result (λ done. IsTimeline done.text.items) }
 {
     let opened = inputs.open(rt)?;
@@ -140,31 +141,32 @@ where
 }
 
 /// Writes a drawing or a page of the schedule in a file to this file, and prints the figures.
-fn write_picture_to<'a, R: Files + AllocGlobal + Threads + Sync>(
+fn write_picture_to<'a, R: Files + AllocGlobal + Threads + Clock + Sync>(
     rt: &R,
     opened: Opened<'a, R::File>,
     wanted: Wanted<'_>,
     target: FileTarget<'a, R::File>,
 ) -> Result<WorkDone<'a>, Trouble>
 where
-    R::File: SystemFile,
+    R::File: FileExt + SystemFile + Sync,
     ensures { IfOk result (λ done. IsTimeline done.text.items) }
 {
     let Opened {
-        mut image,
+        image,
         mut schedule,
     } = opened;
     let mut late = Late::new(rt, target);
+    let mut image = ImageFile::untimed(rt, image);
     let written = write_into(
         rt,
-        &mut FromRead::new(&mut image),
+        &mut image,
         &mut FromRead::new(&mut schedule),
         &mut ToWrite::new(&mut late),
         wanted,
     );
     match written {
         Ok(TimelinePicture { line, .. }) => late.ended(line),
-        Err(unreplayed) => Err(late.failed(replay_trouble(unreplayed, &image, &schedule))),
+        Err(unreplayed) => Err(late.failed(replay_trouble(unreplayed, image.watched(), &schedule))),
     }
 }
 

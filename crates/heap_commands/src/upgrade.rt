@@ -12,38 +12,42 @@ ghost use Rattle.command_support.specs.declared.failure.Failure.TheVariants.{Fau
 
 use crate::shared::versions::version_numbered;
 use command_files::{Late, SystemFile, WorkDone, image_and_out};
+use command_host::ImageFile;
 use command_line::Upgrade;
 use command_support::{Failure, Trouble, push_number, push_text};
 use heap_image::{
-    Alone, FromRead, Image, Intake, Outlet, ToWrite, Version, read_image, upgrade_to,
-    write_image_buffered,
+    Alone, Image, Intake, Outlet, ToWrite, Version, read_image, upgrade_to, write_image_buffered,
 };
 use std::alloc::Global;
+use std::os::unix::fs::FileExt;
 use std::rt::Files;
+use std::thread::Threads;
+use std::time::Clock;
 
 /// Room for the line with the number of roots, with 20 digits for it.
 const LINE_ROOM: usize = 27;
 
 /// Upgrades the image in one file to another file, and returns what `upgrade` prints.
-pub fn answer<'a, R: Files + AllocGlobal>(
+pub fn answer<'a, R: Files + AllocGlobal + Threads + Clock + Sync>(
     rt: &R,
     request: Upgrade<'a>,
 ) -> Result<WorkDone<'a>, Trouble>
 where
-    R::File: SystemFile,
+    R::File: FileExt + SystemFile + Sync,
     ensures { IfOk result (λ done. IsRootCount done.text.items) }
 {
-    let (mut image, target) = image_and_out(rt, request.image, request.out, request.atomic)?;
+    let (image, target) = image_and_out(rt, request.image, request.out, request.atomic)?;
     let mut late = Late::new(rt, target);
+    let mut image = ImageFile::untimed(rt, image);
     let line = upgrade_into(
         rt.alloc(),
-        &mut FromRead::new(&mut image),
+        &mut image,
         &mut ToWrite::new(&mut late),
         version_numbered(request.to),
     );
     match line {
         Ok(line) => late.ended(line),
-        Err(failure) => Err(late.failed(Trouble::new(failure).if_image(&image))),
+        Err(failure) => Err(late.failed(Trouble::new(failure).if_image(image.watched()))),
     }
 }
 

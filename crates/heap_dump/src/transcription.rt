@@ -62,19 +62,20 @@ impl Transcription<'_> {
         transcription.finish(&dump)
     }
 
-    /// Returns what was read. It is an error if objects of the first reading are missing.
+    /// Returns what was read, once ids are replaced by references. It is an error if objects of the first reading are missing.
     fn finish(self, dump: &Dump) -> Result<Transcript, ImportError>
         ensures { result ≢ Err ImportError.Input }
     {
         let Transcription {
             inventory,
             done,
-            transcript,
+            mut transcript,
             ..
         } = self;
         if done != inventory.objects.len() {
             return Err(dump.problem(Problem::Changed));
         }
+        transcript.unresolved = inventory.objects.resolve_references(&mut transcript.heap);
         Ok(transcript)
     }
 
@@ -151,21 +152,11 @@ impl Transcription<'_> {
         Ok(())
     }
 
-    /// Puts the reference to the object with this id, or null if the dump has no such object.
-    fn put_reference(&mut self, dump: &Dump, id: u64) -> Result<(), ImportError>
+    /// Puts the id of an object, which is replaced by a reference once all are read.
+    fn put_id(&mut self, dump: &Dump, id: u64) -> Result<(), ImportError>
         ensures { result ≢ Err ImportError.Input }
     {
-        let reference = match self.inventory.objects.address_of(id) {
-            Some(address) => address.saturating_add(1),
-            None => 0,
-        };
-        if reference == 0 && id != 0 {
-            self.transcript.unresolved = self.transcript.unresolved.saturating_add(1);
-        }
-        if !self
-            .slots
-            .put_reference(&mut self.transcript.heap, reference)
-        {
+        if !self.slots.put_reference(&mut self.transcript.heap, id) {
             return Err(dump.problem(Problem::Changed));
         }
         Ok(())
@@ -182,7 +173,7 @@ impl Transcription<'_> {
     {
         if let FieldType::Reference = value {
             let id = dump.id(source)?;
-            return self.put_reference(dump, id);
+            return self.put_id(dump, id);
         }
         let count = usize::from(value.data_bytes());
         dump.window.need(source, count)?;
@@ -225,7 +216,7 @@ impl Transcription<'_> {
         ensures input { result ≡ Err ImportError.Input → IsTrue (R.has_failed source.new) }
     {
         for id in dump.class_head(source)? {
-            self.put_reference(dump, id)?;
+            self.put_id(dump, id)?;
         }
         self.copy_statics(dump, source)?;
         dump.skip_fields(source)

@@ -14,3 +14,4 @@ pub mod Ones
 pub mod References
 pub mod SoundObjects
 pub mod SoundReferences
+pub mod MovedUp

@@ -1,8 +1,8 @@
 -- Which objects of a live list are sound.
-use Rattle.std.specs.Prelude.{◌≡◌, List, ℕ, ◌+◌, ◌*◌, ◌<◌, ◌≤◌, IsTrue, [], All, Option, None, MatchOption, length, slice_index, slice_index_or}
+use Rattle.std.specs.Prelude.{◌≡◌, List, ℕ, ◌+◌, ◌*◌, ◌/◌, ◌<◌, ◌≤◌, IsTrue, [], All, Option, None, MatchOption, length, slice_index, slice_index_or}
 use denote.Ref.{Bor}
 use Rattle.object_heap.specs.HeapImage.{HeapImage, HasSoundHeader, heap_words, size_at, end_of, references_at, reference_at, is_null_or_live, with_live, word_at}
-use Rattle.object_heap.specs.Bits.{MarkBegins}
+use Rattle.object_heap.specs.Bits.{has, MarkBegins}
 use Rattle.object_heap.specs.ObjectFaults.{unsound_header, dangling}
 
 -- the i-th live object has a sound header, ends before the next one begins, and each of its references is null or leads
@@ -31,17 +31,27 @@ pub record AreWellFormed (image : HeapImage) : Type 0 where
 abbrev pub AreBeginsOrWellFormed : HeapImage → Option (Bor (List ℕ)) → Type 0
 AreBeginsOrWellFormed image begins = MatchOption begins (AreWellFormed image) (λ bits. MarkBegins image.live (heap_words image) bits.now)
 
--- these addresses are in the heap, and these bits mark them, or there are none and the objects there are well-formed
-pub record AreKnown (heap : HeapImage) (live : List ℕ) (begins : Option (Bor (List ℕ))) : Type 0 where
-  pub inside : All (λ a. a < heap_words heap) live
-  pub begins_or : AreBeginsOrWellFormed (with_live heap live) begins
+-- bit r is set where reference r is null or leads to a listed object
+pub record MarkReferences (image : HeapImage) (bits : List ℕ) : Type 0 where
+  pub room : heap_words image / 64 < length bits
+  pub marked : (r : ℕ) → r ≤ heap_words image → has bits r ≡ is_null_or_live image r
 
--- where these bits mark the live objects, each of these references is null or leads to one
-abbrev pub LeadToLive : HeapImage → List ℕ → List ℕ → Type 0
-LeadToLive heap bits references = (live : List ℕ) → All (λ a. a < heap_words heap) live → MarkBegins live (heap_words heap) bits
-    → (k : ℕ) → k < length references → IsTrue (is_null_or_live (with_live heap live) (slice_index references k))
+-- these bits mark the references to live objects, or there are none and the live objects are well-formed
+abbrev pub AreReferencesOrWellFormed : HeapImage → Option (List ℕ) → Type 0
+AreReferencesOrWellFormed image marked = MatchOption marked (AreWellFormed image) (MarkReferences image)
+
+-- these addresses are in the heap, and these bits mark the references to them, or there are none and the objects there are
+-- well-formed
+pub record AreKnown (heap : HeapImage) (live : List ℕ) (marked : Option (Bor (List ℕ))) : Type 0 where
+  pub inside : All (λ a. a < heap_words heap) live
+  pub marked_or : MatchOption marked (AreWellFormed (with_live heap live)) (λ bits. MarkReferences (with_live heap live) bits.now)
+
+-- each of these references is at most the number of words, and marked
+abbrev pub AreMarked : ℕ → List ℕ → List ℕ → Type 0
+AreMarked words marked references = (k : ℕ) → k < length references
+    → (slice_index references k ≤ words) × IsTrue (has marked (slice_index references k))
 
 -- the same of the words of the heap from one up to another
-abbrev pub WordsLeadToLive : HeapImage → List ℕ → ℕ → ℕ → Type 0
-WordsLeadToLive heap bits from to = (live : List ℕ) → All (λ a. a < heap_words heap) live → MarkBegins live (heap_words heap) bits
-    → (p : ℕ) → from ≤ p → p < to → IsTrue (is_null_or_live (with_live heap live) (word_at heap p))
+abbrev pub AreWordsMarked : HeapImage → List ℕ → ℕ → ℕ → Type 0
+AreWordsMarked heap marked from to = (p : ℕ) → from ≤ p → p < to
+    → (word_at heap p ≤ heap_words heap) × IsTrue (has marked (word_at heap p))

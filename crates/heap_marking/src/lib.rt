@@ -14,6 +14,7 @@ mod laws;
 mod live_list;
 mod marker;
 mod marking;
+mod references;
 mod soundness;
 
 pub use laws::marks_are_listed;

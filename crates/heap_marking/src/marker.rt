@@ -7,6 +7,7 @@ ghost use Rattle.heap_marking.specs.Soundness.{AreNoted, AreBeginsOrWellFormed};
 
 use crate::live_list::{list_in_threads, marked_addresses};
 use crate::marking::{Marked, mark, mark_in_threads};
+use crate::references::mark_references;
 use crate::soundness::{PIECE, note_sizes};
 use object_heap::{Bits, Heap};
 use std::alloc::{AllocError, Global};
@@ -64,9 +65,11 @@ impl Marker for Alone {
         live: &[u64],
         begins: Option<&Bits>,
     ) -> Result<Vec<[u32; PIECE]>, AllocError> {
+        let references = mark_references(alloc, begins)?;
+        let marked = references.as_ref().map(Bits::words);
         let mut sizes = vec![in alloc; [0u32; PIECE]; live.len().div_ceil(PIECE)]?;
         let note = |piece: usize, sizes: &mut [u32; PIECE]| {
-            note_sizes(heap, live, begins, piece, sizes)
+            note_sizes(heap, live, marked, piece, sizes)
         };
         for_each_mut_alone(sizes.as_mut_slice(), &note);
         Ok(sizes)
@@ -89,10 +92,12 @@ impl<T: Threads + Sync> Marker for Many<'_, T> {
         live: &[u64],
         begins: Option<&Bits>,
     ) -> Result<Vec<[u32; PIECE]>, AllocError> {
+        let references = mark_references(alloc, begins)?;
+        let marked = references.as_ref().map(Bits::words);
         let mut sizes = vec![in alloc; [0u32; PIECE]; live.len().div_ceil(PIECE)]?;
         let count = self.most.min(sizes.len() / LEAST_PIECES).max(1);
         let note = |piece: usize, sizes: &mut [u32; PIECE]| {
-            note_sizes(heap, live, begins, piece, sizes)
+            note_sizes(heap, live, marked, piece, sizes)
         };
         for_each_mut(self.threads, sizes.as_mut_slice(), count, &note);
         Ok(sizes)

@@ -1,14 +1,13 @@
 //! Checks a live list in one thread or several, and notes the sizes of its objects.
 //!
-//! The objects are taken in pieces of 64. Their references are read a row of words at a time, and looked up in the bits of
-//! the live addresses. If the objects are known to be well-formed,
-//! only their headers are read. The result only says whether all objects are sound: `check` finds the first fault.
+//! The objects are taken in pieces of 64. Their references are read a row of words at a time, and looked up in a set of
+//! those that objects may have. If the objects are known to be well-formed, only their headers are read. The result only says whether all objects are sound: `check` finds the first fault.
 //! No object waits for another one, so that the processor reads some headers and references ahead by itself.
 ghost use Rattle.std.specs.Prelude.{◌≡◌, ◌<◌, ◌≤◌, ◌+◌, ◌*◌, ◌/◌, ◌%◌, ℕ, All, IfSome, IsTrue, IfOk, length, [], List, slice_index, slice_index_or};
 ghost use Rattle.object_heap.specs.HeapImage.{HasLiveList, heap_words, is_null_or_live, size_at, with_live, word_at};
-ghost use Rattle.object_heap.specs.Bits.{MarkBegins};
+ghost use Rattle.object_heap.specs.Bits.{has, MarkBegins};
 ghost use Rattle.object_heap.specs.Sizes.{AreSizes};
-ghost use Rattle.heap_marking.specs.Soundness.{AreAllNoted, AreBeginsOrWellFormed, AreKnown, AreNoted, IsSoundObject, LeadToLive, WordsLeadToLive};
+ghost use Rattle.heap_marking.specs.Soundness.{AreBeginsOrWellFormed, AreKnown, AreMarked, AreNoted, AreWordsMarked, IsSoundObject};
 
 use crate::marker::Marker;
 use object_heap::header::{self, is_unsound};
@@ -46,22 +45,23 @@ pub fn sizes_if_sound<M: Marker>(
     }
 }
 
-/// Notes the sizes of the sound live objects of a piece.
+/// Notes the sizes of the sound live objects of a piece. `marked` marks the references that are null or lead to a live
+/// object, or is `None` for well-formed objects.
 pub(crate) fn note_sizes(
     heap: &Heap<'_>,
     live: &[u64],
-    begins: Option<&Bits>,
+    marked: Option<&[u64]>,
     piece: usize,
     sizes: &mut [u32; PIECE],
 )
-    requires known { AreKnown heap.now live.now begins }
+    requires known { AreKnown heap.now live.now marked }
     requires piece { 64 * piece < length live.now }
     ensures { AreNoted (with_live heap.now live.now) piece sizes.new }
 {
     let from = piece * PIECE;
     let to = live.len().min(from + PIECE);
     for i in from..to {
-        sizes[i - from] = size_if_sound(heap, live, begins, i);
+        sizes[i - from] = size_if_sound(heap, live, marked, i);
     }
 }
 
@@ -92,15 +92,15 @@ fn are_noted(sizes: &[u32]) -> bool
 
 /// The size of the live object with this index, or 0 if it isn't sound.
 #[inline]
-fn size_if_sound(heap: &Heap<'_>, live: &[u64], begins: Option<&Bits>, i: usize) -> u32
-    requires known { AreKnown heap.now live.now begins }
+fn size_if_sound(heap: &Heap<'_>, live: &[u64], marked: Option<&[u64]>, i: usize) -> u32
+    requires known { AreKnown heap.now live.now marked }
     requires index { i < length live.now }
     ensures sound { 0 < result → IsSoundObject (with_live heap.now live.now) i }
     ensures size { 0 < result → result ≡ size_at (with_live heap.now live.now) (slice_index live.now i) }
 {
     heap.own();
     let header = heap.word(live[i]);
-    if is_sound(heap, live, begins, i, header) {
+    if is_sound(heap, live, marked, i, header) {
         header::size(header)
     } else {
         0
@@ -110,8 +110,8 @@ fn size_if_sound(heap: &Heap<'_>, live: &[u64], begins: Option<&Bits>, i: usize)
 /// Whether the live object with this index and this header fits in the heap, ends before the next one begins, and has
 /// only references that are null or lead to live objects.
 #[inline]
-fn is_sound(heap: &Heap<'_>, live: &[u64], begins: Option<&Bits>, i: usize, header: u64) -> bool
-    requires known { AreKnown heap.now live.now begins }
+fn is_sound(heap: &Heap<'_>, live: &[u64], marked: Option<&[u64]>, i: usize, header: u64) -> bool
+    requires known { AreKnown heap.now live.now marked }
     requires index { i < length live.now }
     requires header { header ≡ word_at heap.now (slice_index live.now i) }
     ensures { IsTrue result → IsSoundObject (with_live heap.now live.now) i }
@@ -128,36 +128,37 @@ fn is_sound(heap: &Heap<'_>, live: &[u64], begins: Option<&Bits>, i: usize, head
     }
     are_sound_references(
         heap,
-        begins,
+        marked,
         a + 1,
         a + 1 + u64::from(header::references(header)),
     )
 }
 
-/// Whether each word from `from` up to `to` is null or leads to a live object, or nothing is looked up.
+/// Whether each word from `from` up to `to` is a marked reference, or nothing is looked up.
 #[inline]
-fn are_sound_references(heap: &Heap<'_>, begins: Option<&Bits>, from: u64, to: u64) -> bool
+fn are_sound_references(heap: &Heap<'_>, marked: Option<&[u64]>, from: u64, to: u64) -> bool
     requires inside { to ≤ heap_words heap.now }
-    requires room { IfSome begins (λ bits. heap_words heap.now / 64 < length bits.now) }
-    ensures { IsTrue result → IfSome begins.entry (λ bits. WordsLeadToLive heap.now bits.now from to) }
+    requires room { IfSome marked (λ bits. heap_words heap.now / 64 < length bits.now) }
+    ensures { IsTrue result → IfSome marked.entry (λ bits. AreWordsMarked heap.now bits.now from to) }
 {
-    match begins {
-        Some(begins) => lead_to_live(heap, begins, from, to),
+    match marked {
+        Some(marked) => are_words_marked(heap, marked, from, to),
         None => true,
     }
 }
 
-/// Whether each word from `from` up to `to` is null or leads to a live object. `begins` marks the live addresses.
+/// Whether each word from `from` up to `to` is a marked reference.
 #[inline]
-fn lead_to_live(heap: &Heap<'_>, begins: &Bits, from: u64, to: u64) -> bool
+fn are_words_marked(heap: &Heap<'_>, marked: &[u64], from: u64, to: u64) -> bool
     requires inside { to ≤ heap_words heap.now }
-    requires room { heap_words heap.now / 64 < length begins.now }
-    ensures { IsTrue result → WordsLeadToLive heap.now begins.now from to }
+    requires room { heap_words heap.now / 64 < length marked.now }
+    ensures { IsTrue result → AreWordsMarked heap.now marked.now from to }
 {
+    let words = heap.len();
     let mut next = from;
     while next < to {
         let row = heap.row(next, to);
-        if !all_lead_to_live(heap, begins, row) {
+        if !are_marked(words, marked, row) {
             return false;
         }
         next += row.len() as u64;
@@ -165,20 +166,29 @@ fn lead_to_live(heap: &Heap<'_>, begins: &Bits, from: u64, to: u64) -> bool
     true
 }
 
-/// Whether each of these references is null or leads to a live object. `begins` marks the live addresses.
+/// Whether each of these references is at most the number of words, and marked.
 ///
-/// It ends at the first that doesn't: without that exit the loop is unrolled, and rows of a few references take longer.
+/// It ends at the first that isn't: without that exit the loop is unrolled, and rows of a few references take longer.
 #[inline]
-fn all_lead_to_live(heap: &Heap<'_>, begins: &Bits, references: &[u64]) -> bool
-    requires { heap_words heap.now / 64 < length begins.now }
-    ensures { IsTrue result → LeadToLive heap.now begins.now references.now }
+fn are_marked(words: u64, marked: &[u64], references: &[u64]) -> bool
+    requires { words / 64 < length marked.now }
+    ensures { IsTrue result → AreMarked words marked.now references.now }
 {
     for reference in references {
-        if !is_null_or_live(heap, *reference, begins) {
+        if *reference > words || !has(marked, *reference) {
             return false;
         }
     }
     true
+}
+
+/// Whether bit `i` of these words is set.
+#[inline]
+fn has(words: &[u64], i: u64) -> bool
+    requires { i / 64 < length words.now }
+    ensures { result ≡ has words.now i }
+{
+    (words[(i / 64) as usize] >> (i % 64)) & 1 == 1
 }
 
 /// Whether a reference is null or to a live object. `bits` marks the live addresses.

@@ -15,6 +15,7 @@ pub mod Ledgers
 pub mod Following
 pub mod Carrying
 pub mod Copies
+pub mod Replying
 pub mod TextLaws
 pub mod Replays
 pub mod Records

@@ -12,4 +12,5 @@ pub mod LineCause
 pub mod Ledger
 pub mod Carrier
 pub mod Replayed
+pub mod Replied
 pub mod Record

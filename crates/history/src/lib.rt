@@ -2,8 +2,9 @@
 //!
 //! - `write_schedule` makes a schedule's text, and `read_schedule` parses it or names the first
 //!   malformed line.
-//! - `check` runs a schedule on the word machine without moving a word, and `replay` runs it on a copy
-//!   of the heap. Both name the first line that the machine refuses, and `explain` says why.
+//! - `check` runs a schedule on the word machine without moving a word, `reply` also returns the machine's
+//!   replies, and `replay` runs it on a copy of the heap. All name the first line that the machine refuses,
+//!   and `explain` says why.
 //!
 //! The scheduler, its tables of moves and its histories are those of the crate `scheduler`, shown here
 //! under the same names.
@@ -32,6 +33,8 @@ pub use machine::line_cause::LineCause;
 pub use machine::refused_line::RefusedLine;
 pub use machine::replayed::{End, Replayed};
 pub use machine::replaying::replay;
+pub use machine::replied::Replied;
+pub use machine::replying::reply;
 pub use schedule::schedule_device::read_schedule_from;
 pub use schedule::schedule_reading::read_schedule;
 pub use schedule::schedule_text::{append_schedule, write_schedule};

@@ -9,3 +9,5 @@ mod references;
 pub(crate) mod refused_line;
 pub(crate) mod replayed;
 pub(crate) mod replaying;
+pub(crate) mod replied;
+pub(crate) mod replying;

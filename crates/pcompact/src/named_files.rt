@@ -14,23 +14,14 @@ pub fn named_files<'a>(request: &Request<'a>) -> NamedFiles<'a> {
         }
         Request::Collect(call) => image_and_out(call.image, call.out),
         Request::Upgrade(call) => image_and_out(call.image, call.out),
-        Request::Verify(call) => {
-            NamedFiles::two((Role::Before, call.before), (Role::After, call.after))
-        }
-        Request::Compare(call) => {
-            NamedFiles::two((Role::Before, call.before), (Role::After, call.after))
-        }
-        Request::Replay(call) => {
-            NamedFiles::two((Role::Image, call.image), (Role::Schedule, call.schedule))
-        }
+        Request::Verify(call) => before_and_after(call.before, call.after),
+        Request::Compare(call) => before_and_after(call.before, call.after),
+        Request::Replay(call) => image_and_schedule(call.image, call.schedule),
         Request::Assemble(call) => {
             NamedFiles::two((Role::Text, call.text), (Role::Image, call.image))
         }
         Request::Record(call) => {
-            NamedFiles::two((Role::Image, call.image), (Role::Out, call.out)).with(
-                Role::Schedule,
-                Some(call.schedule),
-            )
+            image_and_out(call.image, call.out).with(Role::Schedule, Some(call.schedule))
         }
         Request::Import(call) => {
             NamedFiles::two((Role::Dump, call.dump), (Role::Image, call.image)).with(
@@ -39,7 +30,7 @@ pub fn named_files<'a>(request: &Request<'a>) -> NamedFiles<'a> {
             )
         }
         Request::Timeline(call) => {
-            NamedFiles::two((Role::Image, call.image), (Role::Schedule, call.schedule)).with(
+            image_and_schedule(call.image, call.schedule).with(
                 Role::Drawing,
                 call.svg.or(call.html),
             )
@@ -50,4 +41,12 @@ pub fn named_files<'a>(request: &Request<'a>) -> NamedFiles<'a> {
 /// The image that is read, and the one that is written.
 fn image_and_out<'a>(image: &'a str, out: &'a str) -> NamedFiles<'a> {
     NamedFiles::two((Role::Image, image), (Role::Out, out))
+}
+
+fn before_and_after<'a>(before: &'a str, after: &'a str) -> NamedFiles<'a> {
+    NamedFiles::two((Role::Before, before), (Role::After, after))
+}
+
+fn image_and_schedule<'a>(image: &'a str, schedule: &'a str) -> NamedFiles<'a> {
+    NamedFiles::two((Role::Image, image), (Role::Schedule, schedule))
 }

@@ -118,32 +118,29 @@ fn a_survey_has_marks_and_plan(rt: HostRuntime) -> Result<(), Fail> {
     Ok(())
 }
 
-/// Where the first live word from an address on goes.
-fn place_from(survey: &Survey, from: u64) -> Option<u64> {
-    let word = survey.marks().next_live(from)?;
-    Some(survey.plan().new_place(word))
-}
-
-/// Where the first live words from addresses 6, 13 and 30 of the base heap on go: the second word of an object, the last of
-/// one, and none.
+/// The words of the base heap, and where those at 6, 13, 30 and 32 go: the second of an object, the last of one, a dead one, and
+/// none.
 fn places_found<T: Threads + Sync>(
     threads: &T,
     alloc: Global,
     image: &Image,
-) -> Result<[Option<u64>; 3], Fault> {
+) -> Result<(u64, [Option<u64>; 4]), Fault> {
     let survey = Survey::of(alloc, image, &Many { threads, most: 2 })?;
-    Ok([
-        place_from(&survey, 6),
-        place_from(&survey, 13),
-        place_from(&survey, 30),
-    ])
+    let places = survey.plan().word_places();
+    let found = [
+        places.get(6),
+        places.get(13),
+        places.get(30),
+        places.get(32),
+    ];
+    Ok((places.words(), found))
 }
 
 #[test]
 fn interior_words_slide_with_their_objects(rt: HostRuntime) -> Result<(), Fail> {
     let image = image_of(&rt, rt.alloc(), BASE_SIZES, &BASE)?;
     let found = places_found(&rt, rt.alloc(), &image)?;
-    equal(&rt, found, [Some(4), Some(8), None]);
+    equal(&rt, found, (32, [Some(4), Some(8), None, None]));
     Ok(())
 }
 

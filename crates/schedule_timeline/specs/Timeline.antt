@@ -1,5 +1,5 @@
 -- The bars and marks of a history: a bar for each grant, and a mark for each drain that frees a region.
-use Rattle.std.specs.Prelude.{◌≡◌, ℕ, ◌+◌, ◌==◌, Bool, false, if◌then◌else◌, List, Option, Some, None, option_map, slice_get}
+use Rattle.std.specs.Prelude.{◌≡◌, ℕ, ◌+◌, ◌==◌, Bool, true, false, if◌then◌else◌, List, Option, Some, None, option_map, slice_get}
 use Rattle.std.specs.List.{enumerate_from, filter_map}
 use Rattle.object_heap.specs.HeapImage.{HeapImage}
 use Rattle.scheduler.specs.State.{AllAreSettled}
@@ -12,8 +12,6 @@ use Rattle.history.specs.Replay.{IsReplay}
 use Rattle.scheduler.specs.declared.entry.Entry.{Entry}
 use Rattle.scheduler.specs.declared.event.Event.{Event}
 use Rattle.scheduler.specs.declared.event.Event.TheVariants.{Claim, Drain}
-use Rattle.history.specs.declared.machine.replayed.End.{End}
-use Rattle.history.specs.declared.machine.replayed.End.TheVariants as end
 use Rattle.scheduler.specs.declared.reply.Reply.{Reply}
 use Rattle.scheduler.specs.declared.reply.Reply.TheVariants.{Yes, Last}
 use Rattle.schedule_timeline.specs.declared.timeline.bar.Bar.{Bar}
@@ -96,10 +94,10 @@ freeing_if log p = option_map (freeing_of log (call_at p)) (freed_pair p.1.event
 abbrev pub freeings_of : List Entry → List Freeing
 freeings_of log = filter_map (freeing_if log) (enumerate_from 0 log)
 
--- the ending of a replay
-abbrev pub ending_of : End → Ending
-ending_of (end.Finished image) = Finished
-ending_of end.Open = Open
+-- how a schedule ends by which all regions to fill are settled, or not
+abbrev pub ending_of : Bool → Ending
+ending_of true = Finished
+ending_of false = Open
 
 -- whether all regions to fill are settled after these calls
 abbrev pub EndsAs : HeapImage → List Entry → Ending → Type 0

@@ -35,7 +35,7 @@ use first_calls::{call_at, call_of, first_calls};
 use freeing::Freeing;
 use heap_image::{Fault, Image};
 use heap_map::Style;
-use history::{End, Replayed, replay};
+use history::{Replied, reply};
 use scheduler::{Entry, Event, Reply, Schedule};
 use std::alloc::{AllocError, Global};
 use summary::{Plan, Survey};
@@ -57,7 +57,7 @@ pub struct Timeline {
 }
 
 impl Timeline {
-    /// Replays a schedule on a copy of an image, and collects its bars and marks.
+    /// Runs a schedule on the word machine of an image, without moving a word, and collects its bars and marks.
     ///
     /// Fails with [`Fault::Schedule`] and the number of the first line that the word machine refuses, or with
     /// [`Fault::Memory`]. The timeline keeps the schedule in 12 bytes a line.
@@ -72,16 +72,17 @@ impl Timeline {
         ensures fault { IfErr result (λ fault. (fault ≡ Fault.Memory) ⊎ ((line : ℕ) × (fault ≡ Fault.Schedule line) × IsRefusedAt image.now schedule.now line)) }
     {
         grants_are_inside();
-        let (lines, ending) = parts_of(replay(alloc, image, survey, schedule)?);
+        let plan = survey.plan();
+        let Replied { lines, is_settled } = reply(alloc, plan, schedule)?;
         if lines.len() > MAX_LINES {
             return Err(Fault::Memory);
         }
-        let regions = survey.plan().regions();
+        let regions = plan.regions();
         Ok(Timeline {
             bars: bars_of(alloc, &lines, regions)?,
             freeings: freeings_of(alloc, &lines, regions)?,
             schedule: lines,
-            ending,
+            ending: ending_of(is_settled),
         })
     }
 
@@ -120,16 +121,15 @@ impl Timeline {
     }
 }
 
-/// The schedule of a replay, and how it ends.
-fn parts_of(replayed: Replayed) -> (Schedule, Ending)
-    ensures lines { result.0 ≡ replayed.lines }
-    ensures ended { result.1 ≡ ending_of replayed.ended }
+/// How a schedule ends.
+fn ending_of(is_settled: bool) -> Ending
+    ensures { result ≡ ending_of is_settled }
 {
-    let ending = match &replayed.ended {
-        End::Finished(_) => Ending::Finished,
-        End::Open => Ending::Open,
-    };
-    (replayed.lines, ending)
+    if is_settled {
+        Ending::Finished
+    } else {
+        Ending::Open
+    }
 }
 
 /// The bars of a schedule in which each line has its reply and only regions below `regions` are granted.

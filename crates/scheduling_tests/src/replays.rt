@@ -1,8 +1,10 @@
 //! Checks and replays of schedules of the base heap. `tests/cli/test_commands.py` has the replies, and other refused lines.
-use crate::checks::{equal_at, expect_memory_fault};
+use crate::checks::{equal_at, expect_memory_fault, holds};
 use heap_image::{Fault, all_processors, decode, encode};
 use heap_samples::{Base, MOVED_LIVE, MOVED_WORDS, Settings, image_text};
-use history::{End, Replayed, check, explain, read_schedule, replay};
+use history::{
+    End, Replayed, Replied, check, explain, read_schedule, replay, reply, write_schedule,
+};
 use scheduler::Schedule;
 use std::alloc::{AllocError, Global};
 use std::process::Abort;
@@ -254,7 +256,7 @@ fn comes_through(alloc: Global, threads: &(impl Threads + Sync)) -> Result<bool,
     Ok(is_settled && is_moved)
 }
 
-/// Whether `check` says that this schedule finishes, and `explain` that none of its lines is refused.
+/// Whether `check` and `reply` say that this schedule finishes, and `explain` that none of its lines is refused.
 fn is_settled(
     alloc: Global,
     threads: &(impl Threads + Sync),
@@ -265,10 +267,36 @@ fn is_settled(
     is_taken(alloc, survey.plan(), &schedule)
 }
 
-/// Whether both say so with this plan.
+/// Whether all say so with this plan.
 fn is_taken(alloc: Global, plan: &Plan, schedule: &Schedule) -> Result<bool, Fault> {
     let refused = explain(alloc, plan, schedule)?;
-    Ok(check(alloc, plan, schedule)? && refused.is_none())
+    let is_replied = reply(alloc, plan, schedule)?.is_settled;
+    Ok(check(alloc, plan, schedule)? && refused.is_none() && is_replied)
+}
+
+/// The text of a schedule over the base heap with all replies, and whether all regions to be filled are settled.
+fn replied(
+    alloc: Global,
+    threads: &(impl Threads + Sync),
+    lines: &str,
+) -> Result<(Vec<u8>, bool), Fault> {
+    let base = Base::WithLiveList.text(alloc, 0)?;
+    let survey = survey_of(alloc, threads, base.as_slice())?;
+    let schedule = read_schedule(alloc, lines.as_bytes())?;
+    let Replied { lines, is_settled } = reply(alloc, survey.plan(), &schedule)?;
+    Ok((write_schedule(alloc, &lines)?, is_settled))
+}
+
+#[test]
+fn reply_fills_in_replies(rt: HostRuntime) -> Result<(), Fail> {
+    let begun = "schedule 1 1\n0 claim 0 ?\n0 copy 0 6 ok\n0 copy 0 2 ?\n0 drain 0 1 ?\n";
+    let (text, is_settled) = replied(rt.alloc(), &rt, begun)?;
+    holds(&rt, RECORDED.as_bytes().starts_with(text.as_slice()));
+    holds(&rt, !is_settled);
+    let (whole, is_settled) = replied(rt.alloc(), &rt, RECORDED)?;
+    holds(&rt, whole.as_slice() == RECORDED.as_bytes());
+    holds(&rt, is_settled);
+    Ok(())
 }
 
 /// The script tests/build/test_crate_allocations.sh runs this with each allocation refused in turn.

@@ -32,6 +32,7 @@ mod report_text;
 mod stride;
 mod survey;
 mod surveyor;
+mod word_places;
 
 pub use plan::{Plan, report};
 pub use reads::Reads;
@@ -39,3 +40,4 @@ pub use region_data::RegionData;
 pub use stride::{FILLER_STRIDE, filler_limit};
 pub use survey::Survey;
 pub use surveyor::Surveyor;
+pub use word_places::WordPlaces;

@@ -24,11 +24,13 @@ use crate::region_data::RegionData;
 use crate::region_table::RegionTable;
 use crate::report_text::report_of_table;
 use crate::surveyor::Surveyor;
+use crate::word_places::WordPlaces;
 use counting::count_regions;
 use deferred::deferred_places;
 use heap_image::{Fault, Image};
 use mark_bitmap::{Listed, Marks};
 use raw_region::Region;
+pub(crate) use redirections::RedirectionSlices;
 use redirections::Redirections;
 use std::alloc::{AllocError, Global};
 use std::marker::Model;
@@ -163,13 +165,14 @@ impl Plan {
         self.redirections.new_address(a)
     }
 
-    /// Where the live word at `q` goes, the first of its object or not: a host's interior pointers need it.
-    #[inline]
-    pub fn new_place(&self, q: u64) -> u64
-        requires { IsTrue (is_live_word self.now q) }
-        ensures { result ≡ slid self.now q }
+    /// Where each live word goes, for who asks of many.
+    pub fn word_places(&self) -> WordPlaces<'_>
+        ensures { result ≡ self.now }
     {
-        self.redirections.new_place(q)
+        WordPlaces::new(
+            self.redirections.as_slices(),
+            u64::from(self.regions()) * self.region_words(),
+        )
     }
 
     /// The reference to the same object after the collection; null stays null.

@@ -1,7 +1,7 @@
 //! Where a collection takes a word.
 ghost use Rattle.collector.specs.NewPlaces.{IsNewPlace};
 
-use summary::Survey;
+use summary::WordPlaces;
 
 /// Where a collection takes a word of its heap.
 #[derive(Debug, Clone, Copy, PartialEq, Eq)]
@@ -14,16 +14,18 @@ pub enum NewPlace {
     At(u64),
 }
 
-/// Where the collection of a surveyed image takes the word at this address.
-pub(crate) fn place_in(survey: &Survey, address: u64) -> NewPlace
-    ensures { IsNewPlace survey.now address result }
-{
-    let plan = survey.plan();
-    if address >= u64::from(plan.regions()) << plan.region_log() {
-        NewPlace::Outside
-    } else if survey.marks().live_words(address, address + 1) == 0 {
-        NewPlace::NotLive
-    } else {
-        NewPlace::At(plan.new_place(address))
+impl NewPlace {
+    /// Where the word at this address goes.
+    #[inline]
+    pub fn of(places: &WordPlaces<'_>, address: u64) -> NewPlace
+        ensures { IsNewPlace places.now address result }
+    {
+        if address >= places.words() {
+            return NewPlace::Outside;
+        }
+        match places.get(address) {
+            Some(to) => NewPlace::At(to),
+            None => NewPlace::NotLive,
+        }
     }
 }

@@ -12,7 +12,7 @@ ghost use Rattle.collector.specs.Slides.{slid_regions};
 ghost use Rattle.collector.specs.Stakes.{IsOfHeap, IsStake};
 
 use super::Session;
-use super::new_place::{NewPlace, place_in};
+use super::new_place::NewPlace;
 use super::progress::Progress;
 use super::returned_stakes::ReturnedStakes;
 use super::stake::{SessionDeed, Stake};
@@ -26,6 +26,7 @@ use read_shares::ReadShare;
 use std::alloc::Global;
 use std::sync::Arc;
 use std::sync::atomic::Ordering;
+use summary::WordPlaces;
 
 /// One worker's part in a session, which one thread at a time may use. The last share that is dropped frees the session.
 pub struct Share {
@@ -152,7 +153,14 @@ impl Share {
     pub fn new_place(&self, address: u64) -> NewPlace
         ensures { IsNewPlace (image_of self.now) address result }
     {
-        place_in(&self.session().shared.survey, address)
+        NewPlace::of(&self.places(), address)
+    }
+
+    /// Where each word goes, for who asks of many.
+    pub fn places(&self) -> WordPlaces<'_>
+        ensures { result ≡ image_of self.now }
+    {
+        self.session().shared.survey.plan().word_places()
     }
 
     /// How many regions the heap of the session has.

@@ -3,7 +3,7 @@ ghost use Rattle.std.specs.Prelude.{codes, IfSome, ◌∷◌, []};
 ghost use Rattle.command_line.specs.CommandLine.{IsCallOf};
 ghost use Rattle.command_line.specs.Request.{IsFor};
 
-use crate::arguments::{ATOMIC, NEW_IMAGE, VERBOSE};
+use crate::arguments::{ATOMIC, NEW_IMAGE, PROGRESS, VERBOSE};
 use crate::definition::{Argument, Definition};
 use crate::request::Request;
 use clap::ArgMatches;
@@ -18,9 +18,10 @@ pub const DEFINITION: Definition = Definition {
     about: "Convert a heap text to a heap image",
     example: EXAMPLE,
     arguments: &[
-        Argument::File("TEXT", "A heap text"),
+        Argument::File("TEXT", "A heap text; - is standard input"),
         NEW_IMAGE,
         ATOMIC,
+        PROGRESS,
         VERBOSE,
     ],
 };

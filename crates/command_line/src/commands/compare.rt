@@ -21,8 +21,14 @@ pub const DEFINITION: Definition = Definition {
     about: "Compare the heap dumps before and after a collection",
     example: EXAMPLE,
     arguments: &[
-        Argument::File("BEFORE", "A heap dump before the collection"),
-        Argument::File("AFTER", "A heap dump of the same machine after it"),
+        Argument::File(
+            "BEFORE",
+            "A heap dump before the collection; - is standard input",
+        ),
+        Argument::File(
+            "AFTER",
+            "A heap dump of the same machine after it; - is standard input",
+        ),
         Argument::Flag("explain", "List holes, changed data and conflicts, too"),
         JSON,
         PROGRESS,

@@ -14,7 +14,8 @@ use clap::ArgMatches;
 const EXAMPLE: &str = "\
 Example:
   jcmd PID GC.heap_dump -all /tmp/heap.hprof
-  pcompact import /tmp/heap.hprof heap.pcheap";
+  pcompact import /tmp/heap.hprof heap.pcheap
+  gunzip -c heap.hprof.gz | pcompact import - heap.pcheap";
 
 /// The definition of `import`.
 pub const DEFINITION: Definition = Definition {
@@ -22,7 +23,7 @@ pub const DEFINITION: Definition = Definition {
     about: "Convert the heap dump of a Java virtual machine to a heap image",
     example: EXAMPLE,
     arguments: &[
-        Argument::File("DUMP", "A heap dump"),
+        Argument::File("DUMP", "A heap dump; - is standard input"),
         NEW_IMAGE,
         Argument::Valued(Valued {
             help: "Regions have 2^k words, k from 3 to 20 (default 9)",

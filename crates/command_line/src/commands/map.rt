@@ -4,7 +4,7 @@ ghost use Rattle.command_line.specs.CommandLine.{IsCallOf};
 ghost use Rattle.command_line.specs.Request.{IsFor};
 
 use crate::arguments::{
-    ALLOWANCE, ATOMIC, COLOR, IMAGE, LETTERS, NO_COLOR, REGION_LOG, SVG, VERBOSE, WIDTH,
+    ALLOWANCE, ATOMIC, COLOR, IMAGE, LETTERS, NO_COLOR, PROGRESS, REGION_LOG, SVG, VERBOSE, WIDTH,
 };
 use crate::definition::{Argument, Definition, Valued, Values};
 use crate::request::Request;
@@ -33,6 +33,7 @@ pub const DEFINITION: Definition = Definition {
         COLOR,
         NO_COLOR,
         ATOMIC,
+        PROGRESS,
         VERBOSE,
     ],
 };

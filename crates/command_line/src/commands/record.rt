@@ -23,7 +23,10 @@ pub const DEFINITION: Definition = Definition {
     arguments: &[
         IMAGE,
         OUT,
-        Argument::File("SCHEDULE", "Where to write the schedule of the workers"),
+        Argument::File(
+            "SCHEDULE",
+            "Where to write the schedule; - is standard output",
+        ),
         WORKERS,
         Argument::Flag(
             "turns",

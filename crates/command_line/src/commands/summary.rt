@@ -3,7 +3,7 @@ ghost use Rattle.std.specs.Prelude.{codes, IfSome, ◌∷◌, []};
 ghost use Rattle.command_line.specs.CommandLine.{IsCallOf};
 ghost use Rattle.command_line.specs.Request.{IsFor};
 
-use crate::arguments::{ALLOWANCE, IMAGE, JSON, REGION_LOG, VERBOSE};
+use crate::arguments::{ALLOWANCE, IMAGE, JSON, PROGRESS, REGION_LOG, VERBOSE};
 use crate::definition::{Argument, Definition};
 use crate::request::Request;
 use crate::shape::Shape;
@@ -27,6 +27,7 @@ pub const DEFINITION: Definition = Definition {
         Argument::Valued(REGION_LOG),
         Argument::Valued(ALLOWANCE),
         JSON,
+        PROGRESS,
         VERBOSE,
     ],
 };

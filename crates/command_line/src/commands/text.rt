@@ -3,7 +3,7 @@ ghost use Rattle.std.specs.Prelude.{codes, IfSome, ◌∷◌, []};
 ghost use Rattle.command_line.specs.CommandLine.{IsCallOf};
 ghost use Rattle.command_line.specs.Request.{IsFor};
 
-use crate::arguments::{IMAGE, VERBOSE};
+use crate::arguments::{IMAGE, PROGRESS, VERBOSE};
 use crate::definition::Definition;
 use crate::request::Request;
 use clap::ArgMatches;
@@ -17,7 +17,7 @@ pub const DEFINITION: Definition = Definition {
     name: "text",
     about: "Print a heap image as text",
     example: EXAMPLE,
-    arguments: &[IMAGE, VERBOSE],
+    arguments: &[IMAGE, PROGRESS, VERBOSE],
 };
 
 /// The arguments of `text`.

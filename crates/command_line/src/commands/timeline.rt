@@ -5,7 +5,8 @@ ghost use Rattle.command_line.specs.Request.{IsFor};
 
 use super::map::Look;
 use crate::arguments::{
-    ALLOWANCE, ATOMIC, COLOR, IMAGE, LETTERS, NO_COLOR, REGION_LOG, SCHEDULE, SVG, VERBOSE, WIDTH,
+    ALLOWANCE, ATOMIC, COLOR, IMAGE, LETTERS, NO_COLOR, PROGRESS, REGION_LOG, SCHEDULE, SVG,
+    VERBOSE, WIDTH,
 };
 use crate::definition::{Argument, Definition, Valued, Values};
 use crate::request::Request;
@@ -40,6 +41,7 @@ pub const DEFINITION: Definition = Definition {
         COLOR,
         NO_COLOR,
         ATOMIC,
+        PROGRESS,
         VERBOSE,
     ],
 };

@@ -22,7 +22,10 @@ pub const DEFINITION: Definition = Definition {
     example: EXAMPLE,
     arguments: &[
         IMAGE,
-        Argument::File("OUT", "Where to write the upgraded image"),
+        Argument::File(
+            "OUT",
+            "Where to write the upgraded image; - is standard output",
+        ),
         TO,
         PROGRESS,
         ATOMIC,

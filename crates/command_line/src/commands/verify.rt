@@ -19,8 +19,14 @@ pub const DEFINITION: Definition = Definition {
     about: "Compare a heap image with the compaction of another",
     example: EXAMPLE,
     arguments: &[
-        Argument::File("BEFORE", "The image before its collection"),
-        Argument::File("AFTER", "The image to compare with its compaction"),
+        Argument::File(
+            "BEFORE",
+            "The image before its collection; - is standard input",
+        ),
+        Argument::File(
+            "AFTER",
+            "The image to compare with its compaction; - is standard input",
+        ),
         Argument::Flag(
             "explain",
             "Say which words differ and where references lead",

@@ -125,6 +125,9 @@ impl fmt::Display for Hint {
 /// The hint about a file that has the first of these where the second is wanted.
 fn text_of(found: Content, wanted: Content) -> &'static str {
     match (found, wanted) {
+        (Content::Packed, Content::Dump) => {
+            "it is packed by gzip, gunzip -c DUMP | pcompact import - IMAGE reads it"
+        }
         (Content::Packed, _) => "it is packed by gzip, gunzip unpacks it",
         (Content::Dump, Content::Image) =>
             "it is a heap dump, pcompact import makes an image of it",

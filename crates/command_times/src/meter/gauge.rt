@@ -2,7 +2,7 @@
 use super::Meter;
 use super::transfer::Transfer;
 use crate::phase::Phase;
-use std::sync::atomic::{AtomicU64, Ordering};
+use std::sync::atomic::{AtomicBool, AtomicU64, Ordering};
 
 /// After how many bytes the clock is read again.
 const STEP: u64 = 1 << 20;
@@ -12,6 +12,8 @@ const STEP: u64 = 1 << 20;
 pub struct Gauge<'m> {
     meter: &'m Meter,
     phase: Phase,
+    /// Whether a file is read for the second time.
+    is_again: AtomicBool,
     /// The length of the file, or 0 if it isn't known.
     whole: AtomicU64,
     /// The number of bytes that are read or written.
@@ -26,10 +28,16 @@ impl<'m> Gauge<'m> {
         Gauge {
             meter,
             phase,
+            is_again: AtomicBool::new(false),
             whole: AtomicU64::new(whole),
             done: AtomicU64::new(0),
             begun: AtomicU64::new(0),
         }
+    }
+
+    /// Notes that the file is read for the second time.
+    pub fn read_again(&self) {
+        self.is_again.store(true, Ordering::Relaxed);
     }
 
     /// Expects this length of the file, or 0 if it isn't known.
@@ -74,7 +82,11 @@ impl<'m> Gauge<'m> {
     fn transfer(&self, done: u64, now: u64) -> Transfer {
         let whole = self.whole.load(Ordering::Relaxed);
         Transfer {
-            phase: self.phase,
+            phase: if self.is_again.load(Ordering::Relaxed) {
+                Phase::ReadAgain
+            } else {
+                self.phase
+            },
             done,
             whole: if whole == 0 { None } else { Some(whole) },
             took: now.saturating_sub(self.begun.load(Ordering::Relaxed)),

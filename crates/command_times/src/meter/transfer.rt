@@ -1,7 +1,7 @@
 //! How far the reading or writing of a file is.
 ghost use Rattle.std.specs.Prelude.{◌≡◌, ◌<◌, IfSome, None, Some, codes};
 ghost use Rattle.command_times.specs.Transfer.{left_of, rate_of, tenths_of, transfer_text};
-ghost use Rattle.command_times.specs.declared.phase.Phase.TheVariants.{Read, Write};
+ghost use Rattle.command_times.specs.declared.phase.Phase.TheVariants.{Read, ReadAgain, Write};
 
 use crate::phase::Phase;
 use std::fmt;
@@ -111,6 +111,8 @@ impl fmt::Display for Amount {
 pub fn transfers_have_lines()
     ensures whole { transfer_text (record { phase = Read; done = 1073741824; whole = Some 2147483648; took = 1000 })
         ≡ codes "read 50.0 per cent, 1024 MiB a second, 1 s left" }
+    ensures again { transfer_text (record { phase = ReadAgain; done = 250; whole = Some 1000; took = 0 })
+        ≡ codes "read again 25.0 per cent" }
     ensures pipe { transfer_text (record { phase = Write; done = 1572864; whole = None; took = 500 })
         ≡ codes "write 1.5 MiB, 3 MiB a second" }
     ensures first { transfer_text (record { phase = Read; done = 32; whole = Some 1000; took = 0 })

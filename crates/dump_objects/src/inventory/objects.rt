@@ -2,6 +2,7 @@
 ghost use Rattle.std.specs.Prelude.{◌≢◌};
 
 use super::classes::Classes;
+use super::resolution::{BATCH, Resolution};
 use super::sections::Sections;
 use crate::heap::arrangement::Arrangement;
 use crate::heap::{UnsealedHeap, first_word, header};
@@ -191,6 +192,68 @@ impl Objects {
     pub fn address_of(&self, id: u64) -> Option<u64> {
         let place = self.place_at(self.index_of(id)?, id)?;
         Some(place.address)
+    }
+
+    /// Replaces the ids in the reference slots of all objects by references, once the objects have addresses. An id that no
+    /// object has becomes null. Returns how many of those are not 0, the id of null.
+    pub fn resolve_references(&self, heap: &mut UnsealedHeap) -> u64 {
+        let mut resolution = Resolution::new();
+        for entry in self.entries.as_slice() {
+            if let Object::Placed { address, .. } = entry.object {
+                resolution.add_object(self, heap, address);
+            }
+        }
+        resolution.end(self, heap)
+    }
+
+    /// The references to the objects with these ids, or null where there is no such object.
+    ///
+    /// The first passes fetch what the last one needs, so the look-ups wait for memory together.
+    pub(super) fn references_to(&self, ids: &[u64; BATCH]) -> [u64; BATCH] {
+        let guesses = self.guesses(ids);
+        let are_right = self.are_at(ids, &guesses);
+        let mut references = [0; BATCH];
+        for i in 0..BATCH {
+            let found = if are_right[i] {
+                self.address_at(guesses[i])
+            } else {
+                self.address_of(ids[i])
+            };
+            if let Some(address) = found {
+                references[i] = address.saturating_add(1);
+            }
+        }
+        references
+    }
+
+    /// For each id, the index at which the search for it begins.
+    fn guesses(&self, ids: &[u64; BATCH]) -> [usize; BATCH] {
+        let mut guesses = [0; BATCH];
+        for i in 0..BATCH {
+            if let Some((from, to)) = self.sections.around(ids[i]) {
+                guesses[i] = from.saturating_add(to.saturating_sub(from) / 2);
+            }
+        }
+        guesses
+    }
+
+    /// For each id, whether it is the one at this index.
+    fn are_at(&self, ids: &[u64; BATCH], indexes: &[usize; BATCH]) -> [bool; BATCH] {
+        let mut are_right = [false; BATCH];
+        for i in 0..BATCH {
+            if let Some(entry) = self.entries.get(indexes[i]) {
+                are_right[i] = entry.id == ids[i];
+            }
+        }
+        are_right
+    }
+
+    /// The address of the object with this index, once it has one.
+    fn address_at(&self, index: usize) -> Option<u64> {
+        match self.entries.get(index)?.object {
+            Object::Placed { address, .. } => Some(address),
+            _ => None,
+        }
     }
 
     /// The place of the object with this id. It is found without a search if its index is `guess`.

@@ -3,13 +3,10 @@ ghost use Rattle.std.specs.Prelude.{◌<◌};
 
 use std::alloc::{AllocError, Global};
 
-/// The number of ids of a section on average.
-const USUAL_IDS: usize = 4;
-
 /// The range of ids of a dump, divided into sections of equal width.
 ///
-/// Ids are mostly spread evenly, so a section has few. However they are spread, the ids of a section ascend, so it can
-/// be searched by bisection.
+/// There are about as many sections as ids, which are mostly spread evenly, so a section has few. However they are spread,
+/// the ids of a section ascend, so it can be searched by bisection.
 #[derive(Drop)]
 pub struct Sections {
     low: u64,
@@ -32,7 +29,7 @@ impl Sections {
 
     /// Sections for `count` ids from `low` to `high`.
     pub fn between(alloc: Global, low: u64, high: u64, count: usize) -> Sections {
-        let most = (count / USUAL_IDS) as u64 + 1;
+        let most = (count as u64).max(1);
         let widest = high.saturating_sub(low) / most;
         Sections {
             low,

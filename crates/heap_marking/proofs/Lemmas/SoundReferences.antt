@@ -1,30 +1,34 @@
 -- The headers and references of live objects, which bits look up or which are known.
 use Rattle.std.proofs.Common.{◌≡◌, ℕ, ◌+◌, ◌/◌, ◌<◌, ◌≤◌, Bool, true, not, ◌||◌, eqb, leb, ltb, List, length, get_or, sym, ap, ◌∙◌, arith, Option, Some, None}
-use Rattle.std.specs.Prelude.{All, IfSome}
-use Rattle.object_heap.specs.Bits.{MarkBegins}
+use Rattle.std.specs.Prelude.{IfSome, MatchOption}
+use Rattle.object_heap.specs.Bits.{has}
 use Rattle.object_heap.specs.HeapImage.{HeapImage, heap_words, word_at, size_at, references_at, reference_at, with_live, is_null_or_live, is_unsound}
 use Rattle.object_heap.specs.Header.{size_of, references_of, kind_of}
 use Rattle.object_heap.specs.Layout.{Layout, Own, size_in, references_in, kind_in, reference_in}
 use Rattle.object_heap.specs.ObjectFaults.{dangling}
-use Rattle.heap_marking.specs.Soundness.{AreBeginsOrWellFormed}
+use Rattle.heap_marking.specs.Soundness.{AreWellFormed, MarkReferences}
 use denote.Ref.{Bor}
 
--- bits that mark live objects have room for each address
-pub begins_room : (heap : HeapImage) (live : List ℕ) (begins : Option (Bor (List ℕ))) → AreBeginsOrWellFormed (with_live heap live) begins → IfSome begins (λ bits. heap_words heap / 64 < length bits.now)
-begins_room heap live (Some bits) known = let room = known.room in omega arith
-begins_room heap live None known = tt
+-- bits that mark references have room for each reference
+pub marks_room : (heap : HeapImage) (live : List ℕ) (marked : Option (Bor (List ℕ))) → MatchOption marked (AreWellFormed (with_live heap live)) (λ bits. MarkReferences (with_live heap live) bits.now)
+    → IfSome marked (λ bits. heap_words heap / 64 < length bits.now)
+marks_room heap live (Some bits) known = known.room
+marks_room heap live None known = tt
 
--- references that are looked up in the marks, or are those of well-formed objects, are null or lead to live objects
+-- references that are marked, or are those of well-formed objects, are null or lead to live objects
 pub references_sound : ((image : HeapImage) → dangling image ≡ None → (i : ℕ) → i < length image.live → (f : ℕ) → f < references_at image (get_or image.live i 0) → is_null_or_live image (reference_at image (get_or image.live i 0) f) ≡ true)
-    → (heap : HeapImage) → heap.layout ≡ Own → (live : List ℕ) (begins : Option (Bor (List ℕ))) (i to : ℕ) → i < length live → All (λ b. b < heap_words heap) live → AreBeginsOrWellFormed (with_live heap live) begins
+    → (heap : HeapImage) → heap.layout ≡ Own → (live : List ℕ) (marked : Option (Bor (List ℕ))) (i to : ℕ) → i < length live
+    → MatchOption marked (AreWellFormed (with_live heap live)) (λ bits. MarkReferences (with_live heap live) bits.now)
     → to ≡ get_or live i 0 + 1 + references_at heap (get_or live i 0)
-    → IfSome begins (λ bits. (listed : List ℕ) → All (λ b. b < heap_words heap) listed → MarkBegins listed (heap_words heap) bits.now
-    → (p : ℕ) → get_or live i 0 + 1 ≤ p → p < to → is_null_or_live (with_live heap listed) (word_at heap p) ≡ true)
+    → IfSome marked (λ bits. (p : ℕ) → get_or live i 0 + 1 ≤ p → p < to → (word_at heap p ≤ heap_words heap) × (has bits.now (word_at heap p) ≡ true))
     → (f : ℕ) → f < references_at heap (get_or live i 0) → is_null_or_live (with_live heap live) (reference_at heap (get_or live i 0) f) ≡ true
-references_sound lead heap own live (Some bits) i to l below known e looked f m =
-    ap (λ (y : Layout). is_null_or_live (with_live heap live) (reference_in y (word_at heap (get_or live i 0 + 1 + f)))) own
-    ∙ looked live below known (get_or live i 0 + 1 + f) (omega arith) (omega (arith, e, m))
-references_sound lead heap own live None i to l below known e looked f m = lead (with_live heap live) known.references i l f m
+references_sound lead heap own live (Some bits) i to l known e looked f m =
+    let p : ℕ = get_or live i 0 + 1 + f in
+    let found = looked p (omega arith) (omega (arith, e, m)) in
+    ap (λ (y : Layout). is_null_or_live (with_live heap live) (reference_in y (word_at heap p))) own
+    ∙ sym (known.marked (word_at heap p) found.0)
+    ∙ found.1
+references_sound lead heap own live None i to l known e looked f m = lead (with_live heap live) known.references i l f m
 
 -- whether a header is unsound, by the word at its address
 pub unsound_tested : (heap : HeapImage) → heap.layout ≡ Own → (live : List ℕ) (words i word : ℕ) → words ≡ heap_words heap → word ≡ get_or heap.words (get_or live i 0) 0 → (bad : Bool)

@@ -234,7 +234,7 @@ replied_schedule law image v lines heap done valid formed all =
       lines = subst (λ (ls : List Line). All (λ line. IsTrue (is_line v.workers line)) ls) (sym all.replies) (steps_fit law (image_table image) v.workers opening all.log (law.lawful image valid) legal);
     }
 
-abbrev view_of : ℕ → List Line → ScheduleView
+abbrev pub view_of : ℕ → List Line → ScheduleView
 view_of n ls = record { workers = n; lines = ls }
 
 -- the result of a replay

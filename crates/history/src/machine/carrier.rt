@@ -1,6 +1,7 @@
 //! `Carrier`: the word machine's copying of words, over a plan.
 
-ghost use Rattle.std.specs.Prelude.{◌≡◌, ◌⊎◌, ◌+◌, ◌<◌, ◌≤◌, ℕ, Some, IfOk, length, slice_index, map, option_map};
+ghost use Rattle.std.specs.Prelude.{◌≡◌, ◌⊎◌, ◌+◌, ◌*◌, ◌<◌, ◌≤◌, ℕ, Some, IfOk, length, slice_index, map, option_map, take};
+ghost use Rattle.std.specs.List.{range_with_len};
 ghost use Rattle.object_heap.specs.HeapImage.{HeapImage, IsValid, heap_words, region_words, region_count, word_at, start_of};
 ghost use Rattle.summary.specs.NewAddresses.{new_top, new_live};
 ghost use Rattle.summary.specs.WordMoves.{origin};
@@ -19,6 +20,9 @@ use std::alloc::{AllocError, Global};
 use summary::Plan;
 use summary::laws::plan_laws;
 use summary::laws::plans::{planned_image_is_own, planned_image_is_valid};
+
+/// The memory of so many regions is freed at once: pieces as small as a region would hold none of the new ones.
+const FREED_TOGETHER: u32 = 64;
 
 /// For each new address, the word that goes there, and when it is redirected.
 pub(crate) struct Carrier<'a> {
@@ -76,19 +80,16 @@ impl<'a> Carrier<'a> {
         &self,
         alloc: Global,
         image: &Image,
-        heap: &[u64],
+        heap: Vec<u64>,
     ) -> Result<Image, AllocError>
         requires kept { IsCarrier self.now }
         requires image { self.now.plan.now ≡ image.now }
-        requires long { length heap.now ≡ heap_words image.now }
-        requires moved { (a : ℕ) → a < heap_words image.now → slice_index heap.now a ≡ moved_word image.now a }
+        requires long { length heap.items ≡ heap_words image.now }
+        requires moved { (a : ℕ) → a < heap_words image.now → slice_index heap.items a ≡ moved_word image.now a }
         ensures { IfOk result (λ new. new ≡ compact image.now) }
     {
         plan_laws();
-        let mut regions = Vec::new(alloc);
-        for r in 0..image.regions() {
-            regions.push(self.finished_region(alloc, heap, r)?)?;
-        }
+        let regions = self.finished_regions(alloc, heap)?;
         let live = self.new_live(alloc, image)?;
         let roots = self.new_roots(alloc, image)?;
         let parts = ImageParts {
@@ -100,6 +101,27 @@ impl<'a> Carrier<'a> {
             roots,
         };
         Ok(parts.into_image())
+    }
+
+    /// The regions of the compacted image. They are made from the last one on, and the words above are freed meanwhile, so
+    /// that both heaps take little more memory than one.
+    fn finished_regions(&self, alloc: Global, mut heap: Vec<u64>) -> Result<Vec<Region>, AllocError>
+        requires kept { IsCarrier self.now }
+        requires long { length heap.items ≡ heap_words self.now.plan.now }
+        requires moved { (a : ℕ) → a < heap_words self.now.plan.now → slice_index heap.items a ≡ moved_word self.now.plan.now a }
+        ensures { IfOk result (λ regions. regions.items
+            ≡ map (λ r. map (compacted_word self.now.plan.now) (region_addresses self.now.plan.now r)) (range_with_len 0 (region_count self.now.plan.now))) }
+    {
+        let len = self.plan.region_words() as usize;
+        let mut regions = Vec::new(alloc);
+        let mut r = self.plan.regions();
+        while r > 0 {
+            r -= 1;
+            regions.push(self.finished_region(alloc, &heap, r)?)?;
+            cut(&mut heap, r as usize * len, r % FREED_TOGETHER == 0);
+        }
+        regions.reverse();
+        Ok(regions)
     }
 
     /// The redirected roots, or `None` for an image of version 1.
@@ -135,8 +157,8 @@ impl<'a> Carrier<'a> {
     fn finished_region(&self, alloc: Global, heap: &[u64], r: u32) -> Result<Region, AllocError>
         requires kept { IsCarrier self.now }
         requires inside { r < region_count self.now.plan.now }
-        requires long { length heap.now ≡ heap_words self.now.plan.now }
-        requires moved { (a : ℕ) → a < heap_words self.now.plan.now → slice_index heap.now a ≡ moved_word self.now.plan.now a }
+        requires long { length heap.now ≡ r * region_words self.now.plan.now + region_words self.now.plan.now }
+        requires moved { (a : ℕ) → a < r * region_words self.now.plan.now + region_words self.now.plan.now → slice_index heap.now a ≡ moved_word self.now.plan.now a }
         ensures { IfOk result (λ region. region ≡ map (compacted_word self.now.plan.now) (region_addresses self.now.plan.now r)) }
     {
         let len = self.plan.region_words();
@@ -152,7 +174,7 @@ impl<'a> Carrier<'a> {
     fn finished_word(&self, heap: &[u64], place: u64) -> u64
         requires kept { IsCarrier self.now }
         requires inside { place < heap_words self.now.plan.now }
-        requires long { length heap.now ≡ heap_words self.now.plan.now }
+        requires there { place < length heap.now }
         requires moved { slice_index heap.now place ≡ moved_word self.now.plan.now place }
         ensures { result ≡ compacted_word self.now.plan.now place }
     {
@@ -220,5 +242,15 @@ impl<'a> Carrier<'a> {
         } else {
             None
         }
+    }
+}
+
+/// Drops the words from `len` on, and frees their memory if `frees` is set.
+fn cut(heap: &mut Vec<u64>, len: usize, frees: bool)
+    ensures { heap.new.items ≡ take len heap.old.items }
+{
+    heap.truncate(len);
+    if frees {
+        heap.shrink_to_fit();
     }
 }

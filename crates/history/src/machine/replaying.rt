@@ -36,7 +36,7 @@ pub fn replay(
     let mut heap = words_of(alloc, image)?;
     let (lines, settled) = carry_out(alloc, &carrier, plan, schedule, &mut heap)?;
     let ended = if settled {
-        End::Finished(carrier.finish(alloc, image, &heap)?)
+        End::Finished(carrier.finish(alloc, image, heap)?)
     } else {
         End::Open
     };

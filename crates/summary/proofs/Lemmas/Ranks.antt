@@ -195,6 +195,23 @@ module _ (image : HeapImage) where
         ]
   ]
 
+  -- the lesser of an address and the live words below it, counted on from the first rank
+  pub least-slid : (q count : ℕ) → count ≡ first_rank image + live_words image 0 q → min q count ≡ slid image q
+  least-slid q count is =
+      let dead = live_words-le image 0 (prefix_end image) in
+      elim (cases_lt q (prefix_end image)) [
+        | inl low ↦
+            let cut = live_words-add image 0 q (prefix_end image) (omega arith) (omega arith) in
+            let few = live_words-le image q (prefix_end image) in
+            let stays = slid-low image q low in
+            omega arith
+        | inr high ↦
+            let cut = live_words-add image 0 (prefix_end image) q (omega arith) high in
+            let few = live_words-le image (prefix_end image) q in
+            let goes = slid-high image q high in
+            omega arith
+      ]
+
 -- a listed address has an index
 index_of : (xs : List ℕ) (a : ℕ) → Contains xs a → (i : ℕ) × (i < length xs) × (get_or xs i 0 ≡ a)
 index_of xs a h = (h.0, h.1, get_or_default xs h.0 0 a h.1 ∙ h.2)

@@ -1,11 +1,11 @@
 //! `Redirections`: the new value of each reference, by one count of live words.
 
-ghost use Rattle.std.specs.Prelude.{◌≡◌, ◌-◌, ◌<◌, ◌≤◌, map, All, IfOk, IsTrue, Contains};
-ghost use Rattle.object_heap.specs.HeapImage.{heap_words, is_live_word, is_null_or_live};
+ghost use Rattle.std.specs.Prelude.{◌≡◌, ◌+◌, ◌-◌, ◌<◌, ◌≤◌, true, false, map, All, IfOk, IsTrue, Contains, MatchOption};
+ghost use Rattle.object_heap.specs.HeapImage.{heap_words, is_live_word, is_null_or_live, live_words};
 ghost use Rattle.summary.specs.WordMoves.{slid};
 ghost use Rattle.summary.specs.NewAddresses.{prefix_end, new_address};
 ghost use Rattle.summary.specs.Compaction.{redirected};
-ghost use Rattle.summary.specs.Redirections.{counted_below};
+ghost use Rattle.summary.specs.Redirections.{counted_below, first_rank};
 
 use crate::plan::ranks::{RankSlices, Ranks};
 use heap_image::Bits;
@@ -83,15 +83,6 @@ impl Redirections {
         self.as_slices().new_address(a)
     }
 
-    /// Where the live word at `q` goes, the first of its object or not.
-    #[inline]
-    pub(crate) fn new_place(&self, q: u64) -> u64
-        requires { IsTrue (is_live_word self.now q) }
-        ensures { result ≡ slid self.now q }
-    {
-        self.as_slices().new_place(q)
-    }
-
     /// The reference to the same object after the collection; null stays null.
     #[inline]
     pub(crate) fn redirected(&self, reference: u64) -> u64
@@ -114,7 +105,7 @@ impl Redirections {
 
     /// The same redirections, borrowed.
     #[inline]
-    fn as_slices(&self) -> RedirectionSlices<'_>
+    pub(crate) fn as_slices(&self) -> RedirectionSlices<'_>
         ensures { result ≡ self.now }
     {
         RedirectionSlices {
@@ -129,7 +120,7 @@ impl Redirections {
 ///
 /// A contract sees the image that the redirections were made of.
 #[derive(Drop)]
-struct RedirectionSlices<'a> {
+pub(crate) struct RedirectionSlices<'a> {
     image: &'a Snapshot<Surveyed>,
     live: &'a [u64],
     ranks: RankSlices<'a>,
@@ -158,17 +149,6 @@ impl RedirectionSlices<'_> {
         self.rank(a + 1) - 1
     }
 
-    /// Where the live word at `q` goes.
-    #[inline]
-    fn new_place(&self, q: u64) -> u64
-        requires { IsTrue (is_live_word self.now q) }
-        ensures { result ≡ slid self.now q }
-    {
-        // The image is valid by what they keep.
-        let _image = self.image;
-        self.rank(q + 1) - 1
-    }
-
     /// The reference to the same object after the collection; null stays null.
     #[inline]
     fn redirected(&self, reference: u64) -> u64
@@ -186,9 +166,43 @@ impl RedirectionSlices<'_> {
         requires live { 0 < reference → IsTrue (is_live_word self.now (reference - 1)) }
         ensures { result ≡ counted_below self.now reference }
     {
-        let i = (reference / 64) as usize;
-        let below = self.live[i] & ((1 << (reference % 64)) - 1);
-        let count = self.ranks.get(i) + u64::from(below.count_ones());
-        reference.min(count)
+        reference.min(self.live_below(reference))
+    }
+
+    /// Where the word at `q` goes, if a live object has it.
+    #[inline]
+    pub(crate) fn place_of(&self, q: u64) -> Option<u64>
+        ensures { MatchOption result (is_live_word self.now q ≡ false) (λ to. (is_live_word self.now q ≡ true) × (to ≡ slid self.now q)) }
+    {
+        // The image is valid by what they keep.
+        let _image = self.image;
+        if !self.is_live(q) {
+            return None;
+        }
+        Some(q.min(self.live_below(q)))
+    }
+
+    /// Whether a live object has the word at this address.
+    #[inline]
+    fn is_live(&self, q: u64) -> bool
+        ensures { result ≡ is_live_word self.now q }
+    {
+        // The live bits are the image's by what they keep.
+        let _image = self.image;
+        match self.live.get((q / 64) as usize) {
+            Some(word) => (*word >> (q % 64)) & 1 == 1,
+            None => false,
+        }
+    }
+
+    /// The live words below an address, counted on from the dead words of the dense prefix.
+    #[inline]
+    fn live_below(&self, a: u64) -> u64
+        requires { a ≤ heap_words self.now }
+        ensures { result ≡ first_rank self.now + live_words self.now 0 a }
+    {
+        let i = (a / 64) as usize;
+        let below = self.live[i] & ((1 << (a % 64)) - 1);
+        self.ranks.get(i) + u64::from(below.count_ones())
     }
 }

@@ -1,11 +1,11 @@
 use Rattle.std.proofs.Common.{◌≡◌, ◌+◌, ℕ, get_or, ◌∙◌, ap, arith}
 use Rattle.object_heap.specs.HeapImage.{with_live, references_at, size_at}
-use Rattle.heap_marking.proofs.Lemmas.SoundReferences.{begins_room, references_sound, unsound_tested, size_is, references_are}
+use Rattle.heap_marking.proofs.Lemmas.SoundReferences.{marks_room, references_sound, unsound_tested, size_is, references_are}
 use Rattle.heap_marking.proofs.soundness.is_sound.Goals as goal
 use Rattle.heap_marking.proofs.soundness.is_sound.Goals.{else-i-live-via-then-i-live+else-end-live, else-i-live-via-else-i-live}
 
 pub are_sound_references-requires-clause-room : goal.are_sound_references-requires-clause-room
-are_sound_references-requires-clause-room c = begins_room c.args.heap.now c.args.live.now c.args.begins c.requires.known.begins_or
+are_sound_references-requires-clause-room c = marks_room c.args.heap.now c.args.live.now c.args.marked c.requires.known.marked_or
 
 pub returns : goal.returns
 returns c = λ said.
@@ -24,5 +24,5 @@ returns c = λ said.
             omega arith
         | else-i-live-via-else-i-live w ↦ let last = w.if-i-live.false in let no : ⊥ = omega arith in absurd no
       ];
-      references = references_sound c.objects_without_faults.ensures.references heap c.own.ensures live c.args.begins i (a + 1 + c.from-2.result) c.requires.index c.requires.known.inside c.requires.known.begins_or (ap (λ n. a + 1 + n) count) (c.are_sound_references.ensures said);
+      references = references_sound c.objects_without_faults.ensures.references heap c.own.ensures live c.args.marked i (a + 1 + c.from-2.result) c.requires.index c.requires.known.marked_or (ap (λ n. a + 1 + n) count) (c.are_sound_references.ensures said);
     }

@@ -13,6 +13,6 @@ if_some (Some x) P Q h p = h x p
 pub returns-in-Some-clause-share : goal.returns-in-Some-clause-share
 returns-in-Some-clause-share c =
     let places : HeapImage = c.in-Some.places in
-    if_some c.args.self.now.share (λ (share : Share). Some places ≡ Some (image_of share)) (λ (share : Share). IsNewPlace (image_of share) c.args.address c.new_place.result)
-    (λ share e. subst (λ (i : HeapImage). IsNewPlace i c.args.address c.new_place.result) (ap (λ (o : Option HeapImage). unwrap_or o places) e) c.new_place.ensures)
+    if_some c.args.self.now.share (λ (share : Share). Some places ≡ Some (image_of share)) (λ (share : Share). IsNewPlace (image_of share) c.args.address c.of.result)
+    (λ share e. subst (λ (i : HeapImage). IsNewPlace i c.args.address c.of.result) (ap (λ (o : Option HeapImage). unwrap_or o places) e) c.of.ensures)
     c.in-Some.ensures.share

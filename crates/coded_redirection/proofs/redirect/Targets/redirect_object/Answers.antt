@@ -29,6 +29,7 @@ returns-clause-words c i inside =
         | inl before ↦
             let far = c.loop-i.invariant.far in
             c.loop-i.invariant.done i behind before
+            ∙ ap (λ (h : HeapImage). redirected_reference h code c.args.self.now.dead old) c.requires.same
             ∙ sym (cond-true is to old (from_parts image code first words a (first + i) above (omega (arith, behind, above)) (omega (arith, before, far, ends, fewer, own, sized, above)) (omega (arith, before, far, ends, fewer, counted, above))))
         | inr after ↦ c.loop-i.invariant.rest i after
             ∙ sym (cond-false is to old (false_from_ne_true is (λ h.

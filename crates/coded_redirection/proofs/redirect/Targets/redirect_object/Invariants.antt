@@ -6,7 +6,7 @@ use Rattle.coded_redirection.proofs.redirect.Targets.redirect_object.Given as go
 abbrev pub invariant-loop-i : goal.invariant-loop-i
 invariant-loop-i l = record {
   long : length l.words ≡ length l.initial.words;
-  done : (k : ℕ) → l.a - l.first < k → k < l.i → get_or l.words k 0 ≡ redirected_reference l.self.survey.now l.self.coding.now l.self.dead (get_or l.initial.words k 0);
+  done : (k : ℕ) → l.a - l.first < k → k < l.i → get_or l.words k 0 ≡ redirected_reference l.self.places l.self.coding.now l.self.dead (get_or l.initial.words k 0);
   far : l.i ≤ l.end;
   front : (k : ℕ) → k ≤ l.a - l.first → get_or l.words k 0 ≡ get_or l.initial.words k 0;
   rest : (k : ℕ) → l.i ≤ k → get_or l.words k 0 ≡ get_or l.initial.words k 0;

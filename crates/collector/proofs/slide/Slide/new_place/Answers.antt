@@ -4,4 +4,4 @@ use Rattle.collector.specs.NewPlaces.{IsNewPlace}
 use Rattle.collector.proofs.slide.Slide.new_place.Goals as goal
 
 pub returns : goal.returns
-returns c = subst (λ (i : HeapImage). IsNewPlace i c.args.address c.place_in.result) c.self.view_is c.place_in.ensures
+returns c = subst (λ (i : HeapImage). IsNewPlace i c.args.address c.of.result) c.places.ensures c.of.ensures

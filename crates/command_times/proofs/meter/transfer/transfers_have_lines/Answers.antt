@@ -6,6 +6,10 @@ pub returns-clause-whole : goal.returns-clause-whole
 unfolding digits
 returns-clause-whole c = refl
 
+pub returns-clause-again : goal.returns-clause-again
+unfolding digits
+returns-clause-again c = refl
+
 pub returns-clause-pipe : goal.returns-clause-pipe
 unfolding digits
 returns-clause-pipe c = refl

@@ -21,7 +21,7 @@ finish-requires-clause-moved c =
     let all : IsCarriedOut image c.args.schedule.now c.in_ok-lines.lines.items c.in_ok-lines.settled c.carry_out.new.heap =
     subst (λ (i : HeapImage). IsCarriedOut i c.args.schedule.now c.in_ok-lines.lines.items c.in_ok-lines.settled c.carry_out.new.heap) (c.plan-plan.ensures ∙ c.requires.same) c.in_ok-lines.ensures.ok in
     let long : length c.carry_out.new.heap ≡ c.in_ok-heap.heap.len = omega (arith, c.carry_out.auto.heap, ap (length {A = ℕ}) c.deref_mut.ensures.value, c.in_ok-heap.heap.ok.0) in
-    let same : c.deref.result.now ≡ c.carry_out.new.heap = c.deref.ensures.value ∙ with_items_is c.in_ok-heap.heap c.carry_out.new.heap long in
+    let same = with_items_is c.in_ok-heap.heap c.carry_out.new.heap long in
     subst (λ (xs : List ℕ). (a : ℕ) → a < heap_words image → slice_index xs a ≡ moved_word image a) (sym same)
     (settled_heap c.machine_laws.ensures image c.args.schedule.now c.in_ok-lines.lines.items c.carry_out.new.heap c.in_ok-lines.settled valid all c.if-settled.true)
 

@@ -1,5 +1,4 @@
-use Rattle.std.proofs.Common.{◌≡◌, ℕ, List, [], ◌∷◌, ◌++◌, ◌∙◌, ap, sym, subst, arith, zero-add}
-use Rattle.std.proofs.lemmas.List.FromFn.{map-range_with_len_more}
+use Rattle.std.proofs.Common.{◌≡◌, ℕ, List, ◌∙◌, ap, refl, sym, subst}
 use Rattle.std.specs.Prelude.{map, option_map}
 use Rattle.std.specs.List.{range_with_len}
 use Rattle.object_heap.specs.Layout.{Own}
@@ -8,23 +7,17 @@ use Rattle.summary.specs.Compaction.{compacted_word}
 use Rattle.summary.specs.RegionData.{region_addresses}
 use Rattle.history.proofs.machine.carrier.Carrier.finish.Goals as goal
 
-pub loop-r-preserved : goal.loop-r-preserved
-loop-r-preserved c =
-    let image : HeapImage = c.args.image.now in
-    let block : c.in_ok-finished_region.field-0 ≡ map (compacted_word image) (region_addresses image c.loop-r.r) =
-    c.in_ok-finished_region.ensures ∙ ap (λ (i : HeapImage). map (compacted_word i) (region_addresses i c.loop-r.r)) c.requires.image in
-    c.in_ok-push.ensures.items
-    ∙ ap (λ (bs : List (List ℕ)). bs ++ c.in_ok-finished_region.field-0 ∷ []) c.loop-r.invariant
-    ∙ ap (λ (b : List ℕ). map (λ r. map (compacted_word image) (region_addresses image r)) (range_with_len 0 c.loop-r.r) ++ b ∷ []) block
-    ∙ sym (map-range_with_len_more (λ r. map (compacted_word image) (region_addresses image r)) 0 c.loop-r.r c.loop-r.r (zero-add c.loop-r.r))
+-- the regions of the compacted image
+abbrev blocks_of : HeapImage → List (List ℕ)
+blocks_of image = map (λ r. map (compacted_word image) (region_addresses image r)) (range_with_len 0 (region_count image))
 
 pub into_image-requires : goal.into_image-requires
 into_image-requires c =
     let image : HeapImage = c.args.image.now in
     let valid = c.region_log.ensures.valid in
     let own = subst (λ (i : HeapImage). i.layout ≡ Own) c.requires.image c.requires.kept.own.layout in
-    let all : c.loop-r.r ≡ region_count image = let low = c.loop-r-test.false in let high = c.loop-r.auto.r-end in let is = c.regions-r-end.ensures.value in omega arith in
-    let parts = c.plan_laws.ensures.parts-of_blocks image own c.version.result c.region_log.result c.allowance.result c.loop-r.r c.loop-r.regions.items c.in_ok-live.live.items (option_map (λ v. v.items) c.in_ok-roots.roots) valid.limits.whole_regions c.version.ensures.value c.region_log.ensures.value c.allowance.ensures c.loop-r.invariant all c.in_ok-live.ensures c.in_ok-roots.ensures in
+    let blocks : c.in_ok-regions.regions.items ≡ blocks_of image = c.in_ok-regions.ensures ∙ ap blocks_of c.requires.image in
+    let parts = c.plan_laws.ensures.parts-of_blocks image own c.version.result c.region_log.result c.allowance.result (region_count image) c.in_ok-regions.regions.items c.in_ok-live.live.items (option_map (λ v. v.items) c.in_ok-roots.roots) valid.limits.whole_regions c.version.ensures.value c.region_log.ensures.value c.allowance.ensures blocks refl c.in_ok-live.ensures c.in_ok-roots.ensures in
     record { regions = parts.0; valid = subst IsValid (sym parts.1) (c.plan_laws.ensures.compact-IsValid image valid) }
 
 pub returns : goal.returns
@@ -32,6 +25,6 @@ returns c =
     let image : HeapImage = c.args.image.now in
     let valid = c.region_log.ensures.valid in
     let own = subst (λ (i : HeapImage). i.layout ≡ Own) c.requires.image c.requires.kept.own.layout in
-    let all : c.loop-r.r ≡ region_count image = let low = c.loop-r-test.false in let high = c.loop-r.auto.r-end in let is = c.regions-r-end.ensures.value in omega arith in
-    let parts = c.plan_laws.ensures.parts-of_blocks image own c.version.result c.region_log.result c.allowance.result c.loop-r.r c.loop-r.regions.items c.in_ok-live.live.items (option_map (λ v. v.items) c.in_ok-roots.roots) valid.limits.whole_regions c.version.ensures.value c.region_log.ensures.value c.allowance.ensures c.loop-r.invariant all c.in_ok-live.ensures c.in_ok-roots.ensures in
+    let blocks : c.in_ok-regions.regions.items ≡ blocks_of image = c.in_ok-regions.ensures ∙ ap blocks_of c.requires.image in
+    let parts = c.plan_laws.ensures.parts-of_blocks image own c.version.result c.region_log.result c.allowance.result (region_count image) c.in_ok-regions.regions.items c.in_ok-live.live.items (option_map (λ v. v.items) c.in_ok-roots.roots) valid.limits.whole_regions c.version.ensures.value c.region_log.ensures.value c.allowance.ensures blocks refl c.in_ok-live.ensures c.in_ok-roots.ensures in
     c.into_image.ensures ∙ parts.1
