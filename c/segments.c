@@ -8,11 +8,6 @@ static pcompact_fault fault_of(uint32_t number) {
     return (pcompact_fault){.number = number};
 }
 
-/* A worker's handle of a segment. */
-static pcompact_handle *handle_of(const pcompact_segments *heap, size_t segment, size_t worker) {
-    return &heap->handles[pcompact_segment_handles(heap->segment_count, worker) + segment];
-}
-
 /* Whether a slot leads to a word of this segment. */
 static bool leads_into(const pcompact_segments *heap, size_t segment, uint64_t slot) {
     const pcompact_slide *slide = &heap->slides[segment];
@@ -38,7 +33,7 @@ static void forget_plans(const pcompact_segments *heap) {
 /* Forgets the workers' shares of a segment's plan. Returns 0, or 12 if some have parts of a slide. */
 static uint32_t forget_shares(const pcompact_segments *heap, size_t segment) {
     uint32_t fault = 0;
-    for (size_t i = 0; i < heap->worker_count; i++) fault |= pcompact_forget(handle_of(heap, segment, i));
+    for (size_t i = 0; i < heap->worker_count; i++) fault |= pcompact_forget(pcompact_segment_handle(heap, segment, i));
     return fault;
 }
 
@@ -61,7 +56,7 @@ pcompact_fault pcompact_plan_segments(const pcompact_segments *heap, const pcomp
 static pcompact_fault share_plan(const pcompact_segments *heap, size_t segment) {
     pcompact_fault fault = fault_of(0);
     for (size_t i = 0; i < heap->worker_count && fault.number == 0; i++) {
-        fault = pcompact_share_plan(&heap->slides[segment].plan, handle_of(heap, segment, i));
+        fault = pcompact_share_plan(&heap->slides[segment].plan, pcompact_segment_handle(heap, segment, i));
     }
     return fault;
 }
@@ -70,7 +65,7 @@ static pcompact_fault share_plan(const pcompact_segments *heap, size_t segment) 
 static bool is_some_held(const pcompact_segments *heap) {
     bool is_held = false;
     for (size_t i = 0; i < heap->segment_count * heap->worker_count; i++) {
-        is_held |= handle_of(heap, i / heap->worker_count, i % heap->worker_count)->is_held;
+        is_held |= pcompact_segment_handle(heap, i / heap->worker_count, i % heap->worker_count)->is_held;
     }
     return is_held;
 }
@@ -91,22 +86,24 @@ struct batch {
     size_t count, segments[MOST_SLOTS];
 };
 
-/* The segment to which a slot leads, most likely this one. */
-static size_t segment_of(const pcompact_segments *heap, size_t likely, uint64_t slot) {
+/* The segment to which a slot leads, most likely the first or the second of these. */
+static size_t segment_of(const pcompact_segments *heap, size_t likely, size_t second, uint64_t slot) {
     if (leads_into(heap, likely, slot)) return likely;
+    if (leads_into(heap, second, slot)) return second;
     size_t found = find_segment(heap, slot);
     return leads_into(heap, found, slot) ? found : NOWHERE;
 }
 
 /* Finds the segments of a batch. Returns the one to which all slots lead that lead to any, or NOWHERE if that isn't so. */
 static size_t find_segments(const pcompact_segments *heap, struct batch *batch) {
-    size_t first = find_segment(heap, batch->slots[0]), recent = first;
+    size_t first = find_segment(heap, batch->slots[0]), recent = first, before = first;
     bool are_alike = true;
     for (size_t i = 0; i < batch->count; i++) {
-        size_t segment = segment_of(heap, recent, batch->slots[i]);
+        size_t segment = segment_of(heap, recent, before, batch->slots[i]);
         batch->segments[i] = segment;
         if (segment == recent || segment == NOWHERE) continue;
         are_alike = false;
+        before = recent;
         recent = segment;
     }
     return are_alike ? first : NOWHERE;
@@ -116,7 +113,7 @@ static size_t find_segments(const pcompact_segments *heap, struct batch *batch) 
 static uint32_t redirect_into(const pcompact_segments *heap, size_t segment, size_t worker, uint64_t *slots, size_t slot_count) {
     const pcompact_slide *slide = &heap->slides[segment];
     pcompact_slot_coding coding = {(uintptr_t)slide->words + heap->tag, slide->word_count, heap->dead, 3};
-    return pcompact_redirect(handle_of(heap, segment, worker), slots, slot_count, coding);
+    return pcompact_redirect(pcompact_segment_handle(heap, segment, worker), slots, slot_count, coding);
 }
 
 /* Redirects those slots that lead to one segment, of which the first has this index. */
@@ -182,7 +179,7 @@ static pcompact_fault begin_segment(const pcompact_segments *heap, size_t segmen
     pcompact_handle handles[MOST_WORKERS] = {{false, NULL}};
     if (heap->worker_count > MOST_WORKERS || forget_shares(heap, segment) != 0) return fault_of(WORKERS);
     pcompact_fault fault = pcompact_begin_slide(&heap->slides[segment], handles, heap->worker_count);
-    for (size_t i = 0; i < heap->worker_count; i++) *handle_of(heap, segment, i) = handles[i];
+    for (size_t i = 0; i < heap->worker_count; i++) *pcompact_segment_handle(heap, segment, i) = handles[i];
     return fault;
 }
 
@@ -197,7 +194,7 @@ pcompact_fault pcompact_begin_segments(const pcompact_segments *heap) {
 uint32_t pcompact_work_segments(const pcompact_segments *heap, size_t worker, uint64_t turns) {
     uint32_t all = PCOMPACT_SETTLED;
     for (size_t i = 0; i < heap->segment_count; i++) {
-        uint32_t how = pcompact_work(handle_of(heap, (i + worker) % heap->segment_count, worker), turns);
+        uint32_t how = pcompact_work(pcompact_segment_handle(heap, (i + worker) % heap->segment_count, worker), turns);
         if (how == PCOMPACT_NOT_HELD) return how;
         if (how == PCOMPACT_TURNS_USED || all == PCOMPACT_SETTLED) all = how;
     }
@@ -207,9 +204,9 @@ uint32_t pcompact_work_segments(const pcompact_segments *heap, size_t worker, ui
 /* Ends a slide by its workers' handles. */
 static uint32_t end_segment(const pcompact_segments *heap, size_t segment, bool clears, pcompact_answer *answer) {
     pcompact_handle handles[MOST_WORKERS];
-    for (size_t i = 0; i < heap->worker_count; i++) handles[i] = *handle_of(heap, segment, i);
+    for (size_t i = 0; i < heap->worker_count; i++) handles[i] = *pcompact_segment_handle(heap, segment, i);
     uint32_t fault = pcompact_end_slide(&heap->slides[segment], handles, heap->worker_count, clears, answer);
-    for (size_t i = 0; i < heap->worker_count; i++) *handle_of(heap, segment, i) = handles[i];
+    for (size_t i = 0; i < heap->worker_count; i++) *pcompact_segment_handle(heap, segment, i) = handles[i];
     return fault;
 }
 

@@ -10,20 +10,20 @@
 #include "caml/weak.h"
 #include <pcompact.h>
 #include <pthread.h>
-#include <sched.h>
 #include <stdlib.h>
 
-/* A region is a page of OCaml's, of which a chunk has a whole number. With MESSAGES in `v` of OCAMLRUNPARAM each compaction says
- * so. */
-enum { REGION_LOG = Page_log - 3, MAX_REGIONS = 1 << 20, MAX_WORKERS = 64, MESSAGES = 0x1000 };
+/* A region is a page of OCaml's, of which a chunk has a whole number. So it has PARTS parts that workers redirect. With MESSAGES in
+ * `v` of OCAMLRUNPARAM each compaction says so. */
+enum { REGION_LOG = Page_log - 3, MAX_REGIONS = 1 << 20, MAX_WORKERS = 64, PARTS = 64, MESSAGES = 0x1000 };
 
-/* The chunks of OCaml's heap, by ascending addresses, and a slide for each: none but in a compaction. No block crosses from one
- * chunk into the next. */
+/* The chunks of OCaml's heap, by ascending addresses: none but in a compaction. No block crosses from one into the next, so each is
+ * a slide. */
 static pcompact_segments heap;
-static char **chunks;
 
-/* The next chunk that no worker has taken. */
-static _Atomic size_t next_chunk;
+/* What the workers do now for each index below a count, and the next index that none has taken. */
+static void (*task)(size_t worker, size_t i);
+static size_t task_count;
+static _Atomic size_t next_task;
 
 static void *have(void *room) {
     if (!room) caml_fatal_error("pcompact: out of memory");
@@ -45,17 +45,21 @@ static void list_chunks(void) {
     heap = (pcompact_segments){.worker_count = workers, .dead = Val_unit};
     heap.slides = have(calloc(count, sizeof *heap.slides));
     heap.handles = have(calloc(pcompact_segment_handles(count, workers), sizeof *heap.handles));
-    chunks = have(malloc(count * sizeof *chunks));
-    for (char *start = caml_heap_start; start; start = Chunk_next(start)) chunks[heap.segment_count++] = start;
+    for (char *chunk = caml_heap_start; chunk; chunk = Chunk_next(chunk)) heap.slides[heap.segment_count++].words = (uint64_t *)chunk;
 }
 
-/* Has each worker do its part, by this thread and by others as far as they can be started. */
-static void share_work(void *(*part)(void *worker)) {
+static void *do_tasks(void *worker) {
+    for (size_t i; (i = next_task++) < task_count;) task((size_t)worker, i);
+    return worker;
+}
+
+/* Has the workers do a task for each index, by this thread and by others as far as they can be started. */
+static void share_work(void (*work)(size_t worker, size_t i), size_t count) {
     pthread_t threads[MAX_WORKERS];
     size_t started = 1;
-    next_chunk = 0;
-    while (started < heap.worker_count && pthread_create(&threads[started], NULL, part, (void *)started) == 0) started++;
-    part((void *)0);
+    task = work, task_count = count, next_task = 0;
+    while (started < heap.worker_count && pthread_create(&threads[started], NULL, do_tasks, (void *)started) == 0) started++;
+    do_tasks(NULL);
     for (size_t i = 1; i < started; i++) pthread_join(threads[i], NULL);
 }
 
@@ -63,11 +67,12 @@ static int is_live(header_t header) { return header != 0 && Is_white_hd(header);
 
 /* Lists the live blocks of a chunk, and plans. A live block has at least two words, and what a list doesn't use is no memory. With
  * an allowance of 0 all blocks slide, each to where those before it end. */
-static void plan_chunk(uint64_t *words, size_t word_count, pcompact_slide *slide) {
+static void plan_chunk(size_t worker, size_t chunk) {
     pcompact_settings settings = {.region_log = REGION_LOG, .allowance = 0};
-    uint64_t *live = have(malloc(word_count / 2 * sizeof *live));
+    pcompact_slide *slide = &heap.slides[chunk];
+    size_t count = 0, word_count = Chunk_size(slide->words) / sizeof(uint64_t);
+    uint64_t *words = slide->words, *live = have(malloc(word_count / 2 * sizeof *live));
     uint32_t *sizes = have(malloc(word_count / 2 * sizeof *sizes));
-    size_t count = 0;
     for (size_t at = 0; at < word_count; at += Whsize_hd(words[at])) {
         if (!is_live(words[at])) continue;
         live[count] = at;
@@ -76,41 +81,28 @@ static void plan_chunk(uint64_t *words, size_t word_count, pcompact_slide *slide
     check(pcompact_plan(words, word_count, live, sizes, count, settings, slide));
     free(live);
     free(sizes);
+    (void)worker;
 }
 
-static void *plan_chunks(void *worker) {
-    for (size_t i; (i = next_chunk++) < heap.segment_count;) {
-        plan_chunk((uint64_t *)chunks[i], Chunk_size(chunks[i]) / sizeof(uint64_t), &heap.slides[i]);
+/* Redirects the fields of a chunk's live blocks that lie in one of its parts, but for numbers. What leads elsewhere stays. A value
+ * may lead to an infix header inside a closure, which keeps its distance. Each field comes here once, as old and new places
+ * overlap. */
+static void redirect_part(size_t worker, size_t part) {
+    uint64_t *words = heap.slides[part / PARTS].words;
+    size_t count = heap.slides[part / PARTS].word_count / PARTS, start = part % PARTS * count, end = start + count;
+    pcompact_handle *plan = pcompact_segment_handle(&heap, part / PARTS, worker);
+    pcompact_batch batch = {.heap = &heap, .worker = worker};
+    size_t at = pcompact_object_over(plan, start);
+    if (at == SIZE_MAX) at = pcompact_next_object(plan, start);
+    for (; at < end; at += Whsize_hd(words[at])) {
+        if (!is_live(words[at]) || Tag_hd(words[at]) >= No_scan_tag) continue;
+        size_t first = at + 1, behind = at + Whsize_hd(words[at]);
+        if (Tag_hd(words[at]) == Closure_tag) first += Start_env_closinfo(Closinfo_val(Val_hp(words + at)));
+        if (first < start) first = start;
+        if (behind > end) behind = end;
+        if (first < behind) pcompact_gather(&batch, words + first, behind - first, 1, 0);
     }
-    return worker;
-}
-
-/* Redirects slots. What leads elsewhere stays. A value may lead to an infix header inside a closure, which keeps its distance. Each
- * slot comes here once, as old and new places overlap. */
-static void redirect(size_t worker, uint64_t **slots, size_t *count) {
-    pcompact_redirect_segments_each(&heap, worker, slots, *count);
-    *count = 0;
-}
-
-/* Redirects the fields of a chunk's blocks, but for numbers. */
-static void redirect_chunk(size_t worker, const pcompact_slide *slide) {
-    uint64_t *slots[PCOMPACT_SLOTS];
-    size_t count = 0;
-    for (size_t at = 0; at < slide->word_count; at += Whsize_hd(slide->words[at])) {
-        value block = Val_hp(slide->words + at);
-        if (!is_live(Hd_val(block)) || Tag_val(block) >= No_scan_tag) continue;
-        mlsize_t i = Tag_val(block) == Closure_tag ? Start_env_closinfo(Closinfo_val(block)) : 0;
-        for (; i < Wosize_val(block); i++) {
-            slots[count] = (uint64_t *)&Field(block, i);
-            if ((count += Is_block(Field(block, i))) == PCOMPACT_SLOTS) redirect(worker, slots, &count);
-        }
-    }
-    redirect(worker, slots, &count);
-}
-
-static void *redirect_chunks(void *worker) {
-    for (size_t i; (i = next_chunk++) < heap.segment_count;) redirect_chunk((size_t)worker, &heap.slides[i]);
-    return worker;
+    pcompact_redirect_batch(&batch);
 }
 
 /* The runtime's walks over finalisers and sampled blocks end in caml_invert_root. Its own is what its own passes still need. */
@@ -133,19 +125,19 @@ static void redirect_roots(void) {
 }
 
 /* Where no region is ready another worker has to go on, and may wait for this processor. */
-static void *work(void *worker) {
-    while (pcompact_work_segments(&heap, (size_t)worker, UINT64_MAX) == PCOMPACT_NONE_READY) sched_yield();
-    return worker;
+static void fill(size_t worker, size_t part) {
+    (void)worker;
+    while (pcompact_work_segments(&heap, part, UINT64_MAX) == PCOMPACT_NONE_READY) sched_yield();
 }
 
 static void end_slides(void) {
     pcompact_answer *answers = have(malloc(heap.segment_count * sizeof *answers));
     check((pcompact_fault){.number = pcompact_end_segments(&heap, false, answers)});
-    for (size_t i = 0; i < heap.segment_count; i++) Chunk_alloc(chunks[i]) = Bsize_wsize(answers[i].new_top);
+    char *chunk = caml_heap_start;
+    for (size_t i = 0; i < heap.segment_count; i++, chunk = Chunk_next(chunk)) Chunk_alloc(chunk) = Bsize_wsize(answers[i].new_top);
     free(answers);
     free(heap.slides);
     free(heap.handles);
-    free(chunks);
     heap.segment_count = 0;
 }
 
@@ -162,12 +154,12 @@ static int can_slide(void) {
 int slide_heap(void) {
     if (!can_slide()) return 0;
     list_chunks();
-    share_work(plan_chunks);
+    share_work(plan_chunk, heap.segment_count);
     check(pcompact_share_segments(&heap));
     redirect_roots();
-    share_work(redirect_chunks);
+    share_work(redirect_part, PARTS * heap.segment_count);
     check(pcompact_begin_segments(&heap));
-    share_work(work);
+    share_work(fill, heap.worker_count);
     end_slides();
     caml_gc_message(MESSAGES, "Slid by libpcompact, %d workers\n", (int)worker_count());
     return 1;

@@ -30,7 +30,7 @@ SECONDS = 60
 PLAIN = "/usr/bin:/bin"
 SCRIPTS = ("install", "uninstall", "pcompact", "sources.sh", "crates.txt", "HANDLES")
 PLACES = {
-    "libexec/pithondlu/pcompact": 0o755, "bin/pcompact": 0o755, "share/man/man1/pcompact.1": 0o644,
+    "libexec/pithondlu/pcompact": 0o755, "libexec/pithondlu/shrink": 0o755, "bin/pcompact": 0o755, "share/man/man1/pcompact.1": 0o644,
     "share/bash-completion/completions/pcompact": 0o644, "share/zsh/site-functions/_pcompact": 0o644,
     "share/fish/vendor_completions.d/pcompact.fish": 0o644, "libexec/pithondlu/installed": 0o644,
     "lib/libpcompact.a": 0o644, "include/pcompact.h": 0o644, "lib/pkgconfig/pcompact.pc": 0o644,

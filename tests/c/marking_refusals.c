@@ -326,9 +326,10 @@ static void refuse_handle(const char *what, pcompact_handle *handle, bool has_ma
         pcompact_objects objects = {0, WORDS, DEAD};
         check(is_fault(pcompact_redirect_objects(handle, words, WORDS, &it.layout, objects), 12, 0, 0), what, 3);
         check(pcompact_next_object(handle, 0) == UINT64_MAX, what, 4);
+        check(pcompact_object_over(handle, 0) == UINT64_MAX, what, 5);
     }
-    if (same.is_held) check(is_fault(pcompact_begin_marking(WORDS, handle), 12, 0, 0), what, 5);
-    check(memcmp(words, copy, sizeof words) == 0 && handle->is_held == same.is_held && handle->at == same.at, what, 6);
+    if (same.is_held) check(is_fault(pcompact_begin_marking(WORDS, handle), 12, 0, 0), what, 6);
+    check(memcmp(words, copy, sizeof words) == 0 && handle->is_held == same.is_held && handle->at == same.at, what, 7);
 }
 
 /* A marking is no plan, nor a worker's part. */

@@ -93,13 +93,28 @@ static void make_slots(void) {
     mix_slots();
 }
 
-/* Each worker redirects its part of the slots, half of them by pointers, the last first. */
+/* Redirects slots that a worker gathers, and none of others. */
+static uint32_t gather(size_t worker, size_t from, size_t end) {
+    pcompact_batch batch = {.heap = &all, .worker = worker};
+    uint64_t other = (uintptr_t)all.slides[0].words + all.tag, before = other;
+    uint32_t how = PCOMPACT_SETTLED;
+    for (size_t i = from; i < end; i += 5) {
+        size_t count = end - i < 5 ? end - i : 5;
+        how |= pcompact_gather(&batch, &slots[i], count, 0, 0) | pcompact_gather(&batch, &other, 1, 1, ~other & 1);
+    }
+    how |= pcompact_redirect_batch(&batch) | pcompact_redirect_batch(&batch);
+    return other == before ? how : (uint32_t)PCOMPACT_NOT_HELD;
+}
+
+/* Each worker redirects its part of the slots: a third of them as they lie, a third by pointers, the last first, and a third that
+ * it gathers. */
 static void *redirect(void *worker) {
     size_t w = (size_t)worker, from = slot_count * w / all.worker_count, end = slot_count * (w + 1) / all.worker_count;
-    size_t middle = from + (end - from) / 2;
-    for (size_t i = middle; i < end; i++) pointers[i] = &slots[middle + end - 1 - i];
-    uint32_t how = pcompact_redirect_segments(&all, w, slots + from, middle - from);
-    return (void *)(uintptr_t)(how | pcompact_redirect_segments_each(&all, w, pointers + middle, end - middle));
+    size_t second = from + (end - from) / 3, third = from + (end - from) * 2 / 3;
+    for (size_t i = second; i < third; i++) pointers[i] = &slots[second + third - 1 - i];
+    uint32_t how = pcompact_redirect_segments(&all, w, slots + from, second - from);
+    how |= pcompact_redirect_segments_each(&all, w, pointers + second, third - second);
+    return (void *)(uintptr_t)(how | gather(w, third, end));
 }
 
 static void *work(void *worker) {

@@ -50,6 +50,17 @@ static bool lists(pcompact_handle *plan, const heap *it) {
     return at == UINT64_MAX && pcompact_next_object(plan, UINT64_MAX) == UINT64_MAX;
 }
 
+/* Whether a plan finds the objects of a heap by each of their words, and none by any other. */
+static bool finds(pcompact_handle *plan, const heap *it) {
+    uint64_t at = 0;
+    for (size_t i = 0; i < it->live_count; i++) {
+        for (; at < it->live[i]; at++) if (pcompact_object_over(plan, at) != UINT64_MAX) return false;
+        for (; at < it->live[i] + it->sizes[i]; at++) if (pcompact_object_over(plan, at) != it->live[i]) return false;
+    }
+    while (at < it->word_count && pcompact_object_over(plan, at) == UINT64_MAX) at++;
+    return at == it->word_count && pcompact_object_over(plan, at) == UINT64_MAX && pcompact_object_over(plan, UINT64_MAX) == UINT64_MAX;
+}
+
 /* Slides a heap, and compares it with the model. */
 static void slide(heap *it, session *s, size_t workers, enum how how, bool clears, size_t number) {
     static wanted to;
@@ -57,8 +68,10 @@ static void slide(heap *it, session *s, size_t workers, enum how how, bool clear
     if (!check(plan(it, s).number == 0 && is_planned(s, it), "a plan", number)) return;
     check(leads_to(&s->slide.plan, it, to.to), "where words go by a plan", number);
     check(lists(&s->slide.plan, it), "objects by a plan", number);
+    check(finds(&s->slide.plan, it), "objects by their words", number);
     if (!check(begin(s, workers) == 0 && held_handles(s) == workers, "a begin", number)) return;
     check(pcompact_next_object(s->handles, 0) == UINT64_MAX, "no objects by a worker's handle", number);
+    check(it->live_count == 0 || pcompact_object_over(s->handles, it->live[0]) == UINT64_MAX, "no object by a worker's handle", number);
     check(!s->slide.plan.is_held && leads_to(&s->handles[workers - 1], it, to.to), "where words go by a handle", number);
     work(s, workers, how);
     end_well(it, s, workers, clears, &to, number);

@@ -104,6 +104,33 @@ def try_rows(tried: Tried) -> None:
         f"words 72 live 34 dead 38 prefix 0 top 34 filled 5\nbefore |_..::++#|\n       |mmmmmmmm|\n{legend('m')}")))
 
 
+# Of the base heap by its allowance and the largest number of bands: where its words go.
+MOVES = [
+    (0, "0 to 2: 3 stay\n5 to 8: 4 go to 3\n12 to 13: 2 go to 7\n20 to 29: 10 go to 9\n"),
+    (2, "0 to 2: 3 stay\n5 to 8: 4 stay\n12 to 13: 2 go to 9\n20 to 29: 10 go to 11\n"),
+    (LARGEST, "0 to 2: 3 stay\n5 to 8: 4 stay\n12 to 13: 2 stay\n20 to 29: 10 stay\n"),
+]
+
+
+def try_moves(tried: Tried) -> None:
+    """Where the words of the base heap go, worked by hand, and those of heaps with more objects, beside a model."""
+    for allowance, lines in MOVES:
+        tried.write("heap", image(WORDS, LIVE, allowance))
+        shown = model.Collection(model.decode(tried.read("heap"))).map(4, False)
+        tried.run("map heap --moves --width 4 --letters", Answer(0, f"{shown}moves:\n{lines}"))
+    for row in [(4096, 3, 50, 25, 2, 40, 8), (65536, 6, 30, 25, 3, 4000, 9), (65536, 9, 90, 25, 1, 0, 10), (1024, 9, 99, 0, 2, 9, 11)]:
+        heap = generated(Wanted(*row))[0]
+        collection = model.Collection(heap)
+        tried.write("heap", model.encode(heap))
+        tried.run("map heap --after --moves --width 64 --letters", Answer(0, collection.map(64, True) + collection.moves()))
+        tried.run("map heap --moves --svg heap.svg", Answer(0, collection.map_line()))
+        bands = [path for path in drawing(tried, "heap.svg").iter(f"{SVG}path") if path.get("class", "").startswith("band")]
+        wanted = [line for line in collection.moves().splitlines()[1:] if not line.endswith("none live")]
+        titles = [path.find(f"{SVG}title").text for path in bands]
+        if len(titles) != len(wanted) or len(tried.read("heap.svg")) > MAX_BYTES:
+            tried.is_wrong(f"a drawing has {len(titles)} bands, where {len(wanted)} have live words")
+
+
 def try_words(tried: Tried) -> None:
     """Numbers of cells that no map has."""
     for width in ("0", "1001", "4294967296"):
@@ -472,7 +499,7 @@ def try_files(tried: Tried) -> None:
         "pcompact: reason no such file or folder\n")))
 
 
-GROUPS = (try_rows, try_words, try_looks, try_terminal, try_sizes, try_drawings, try_labels, try_rounding, try_contrast, try_names, try_large_drawings, try_most_regions, try_files)
+GROUPS = (try_rows, try_moves, try_words, try_looks, try_terminal, try_sizes, try_drawings, try_labels, try_rounding, try_contrast, try_names, try_large_drawings, try_most_regions, try_files)
 
 if __name__ == "__main__":
     sys.exit(try_groups(GROUPS))

@@ -9,6 +9,7 @@ last line but one says which.
 """
 import argparse
 import collections
+import dataclasses
 import html.parser
 import pathlib
 import random
@@ -538,6 +539,57 @@ def try_pages(tried: Tried) -> None:
         shown_right(tried, found, Machine(collection), schedule)
 
 
+def word_said(collection: model.Collection, address: int, is_written: bool) -> str:
+    """What the page says of a word, as it was or as it is written."""
+    heap, size = collection.image, collection.region_words
+    old = collection.origins.get(address) if is_written else address
+    if old not in collection.owner:
+        return f"word {address}: {'filler' if is_written else 'dead word'}"
+    a, word = collection.owner[old], heap.words[old]
+    names = {b: chr(65 + i) for i, b in enumerate(collection.live)}
+    count, end = model.references_of(heap.words[a]), collection.new[a] + model.size_of(heap.words[a])
+    is_late = collection.new[a] // size != (end - 1) // size
+    if old == a:
+        words = end - collection.new[a]
+        said = f"header of object {names[a]}, {words} word{'s' * (words != 1)}, {count} reference{'s' * (count != 1)}"
+    elif old > a + count:
+        said = f"data word of object {names[a]}, {word}"
+    elif not word:
+        said = f"null reference of object {names[a]}"
+    else:
+        said = f"reference of object {names[a]} to object {names[word - 1]}, "
+        said += f"redirected to {collection.new[word - 1]}" if is_written and not is_late else f"at {word - 1}"
+        said += ", redirected once all regions are filled" if is_written and is_late else ""
+    return f"word {address}: {said}" + (f", from word {old} of region {old // size}" if old != address else "")
+
+
+def try_heap_words(tried: Tried) -> None:
+    """The words of the base heap after each line, beside the model; those of a large heap aren't on the page."""
+    for allowance in (0, 2):
+        heap = dataclasses.replace(model.decode(tried.read("base")), allowance=allowance)
+        collection = model.Collection(heap)
+        tried.write("heap", model.encode(heap))
+        tried.run("record heap out schedule --workers 2 --turns", Answer(0, None))
+        tried.run("timeline heap schedule --html page", Answer(0, None))
+        calls = [line.split() for line in tried.read("schedule").decode().splitlines()[1:]]
+        lines = range(1, len(calls) + 2)
+        found, _ = run_page(tried.read("page").decode(), {"lines": list(lines), "keys": []}, tried.folder)
+        for line in lines if found and found["states"]["1"]["words"] else ():
+            tried.count += 1
+            written = collections.Counter()
+            for _, _, region, number, _ in (call for call in calls[:line - 1] if call[1] == "copy"):
+                written[int(region)] += int(number)
+            size = collection.region_words
+            wanted = [word_said(collection, p, p % size < written[p // size]) for p in range(len(heap.words))]
+            if found["states"][str(line)]["words"] != wanted:
+                tried.is_wrong(f"the words after line {line} with allowance {allowance} are others")
+    tried.write("heap", model.encode(generated(Wanted(264, 3, 50, 25, 2, 0, 7))[0]))
+    tried.run("record heap out schedule --workers 1", Answer(0, None))
+    tried.run("timeline heap schedule --html page", Answer(0, None))
+    if 'id="heap">\n</script>' not in tried.read("page").decode():
+        tried.is_wrong("a page has the words of a large heap")
+
+
 def try_prefix(tried: Tried) -> None:
     """A region of the dense prefix keeps its words, which come from no other region."""
     tried.write("heap", image(WORDS, LIVE, 2))
@@ -577,7 +629,7 @@ def main() -> None:
     words.add_argument("--write", action="store_true")
     asked = words.parse_args()
     name = runner()
-    groups = [try_base, try_open, try_contrast, try_seeded, try_many, *([try_pages, try_large, try_layout] if name else [])]
+    groups = [try_base, try_open, try_contrast, try_seeded, try_many, *([try_pages, try_heap_words, try_large, try_layout] if name else [])]
     with tempfile.TemporaryDirectory() as room:
         tried = Tried(asked.program or built(), pathlib.Path(room))
         if asked.write:

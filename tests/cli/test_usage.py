@@ -32,6 +32,7 @@ Commands:
   import    Convert the heap dump of a Java virtual machine to a heap image
   compare   Compare the heap dumps before and after a collection
   generate  Generate a heap image from a seed, for benchmarks and experiments
+  reduce    Make a heap image smaller by one step; pcompact shrink takes many
   board     Schedule three regions among two workers, and count claims
   help      Print this message or the help of the given subcommand(s)
 
@@ -220,6 +221,7 @@ Arguments:
 
 Options:
       --after           Also draw the heap after its collection
+      --moves           Also draw where the live words go
       --width <n>       Cells of a row, 1 to 1000 (default: what fits, or 64)
       --height <n>      Rows, 1 to 100 (default: what fits, or 1; 8 in SVG)
       --svg <FILE>      Draw into this file as SVG, and print only the figures
@@ -309,6 +311,26 @@ Example:
   pcompact upgrade heap.pcheap rooted.pcheap
 """
 
+REDUCE_HELP = """\
+Make a heap image smaller by one step; pcompact shrink takes many
+
+Usage: pcompact reduce [OPTIONS] <IMAGE> <OUT>
+
+Arguments:
+  <IMAGE>  A heap image; - is standard input
+  <OUT>    Where to write the smaller image; - is standard output
+
+Options:
+      --step <n>  The first step to try (default 0)
+      --progress  Show progress (or --progress=WHEN: auto, always, never)
+      --atomic    Replace files only once the command has succeeded
+  -v, --verbose   Print details of errors (default; --verbose=never: none)
+  -h, --help      Print help
+
+Example:
+  pcompact reduce heap.pcheap smaller.pcheap --step 5
+"""
+
 IMPORT_HELP = """\
 Convert the heap dump of a Java virtual machine to a heap image
 
@@ -323,7 +345,10 @@ Options:
       --allowance <m>   Dead words that the dense prefix may keep (default 0)
       --version <v>     Image version, from 2 to 3 (default 2, larger heaps 3)
       --live-only       Keep only objects that are reachable from the roots
-      --classes <FILE>  List each object: address, class, bytes, live or dead
+      --weak            Don't follow weak, phantom and final references
+      --weak-soft       Don't follow soft references either
+      --pack            Leave out gaps that are the machine's padding
+      --classes <FILE>  List each object: address, id, class, bytes, live or dead
       --histogram <n>   Print the n classes with the most bytes, live and dead
       --json            Print a JSON object
       --stats           Print timings and peak memory to stderr
@@ -389,7 +414,7 @@ Example:
 
 NO_COMMAND = """\
 error: 'pcompact' requires a subcommand but one was not provided
-  [subcommands: collect, verify, summary, order, map, text, assemble, record, replay, timeline, upgrade, import, compare, generate, board, help]
+  [subcommands: collect, verify, summary, order, map, text, assemble, record, replay, timeline, upgrade, import, compare, generate, reduce, board, help]
 
 Usage: pcompact <COMMAND>
 
@@ -572,6 +597,7 @@ HELPS = [
     ("help replay", REPLAY_HELP),
     ("verify --help", VERIFY_HELP),
     ("upgrade --help", UPGRADE_HELP),
+    ("reduce --help", REDUCE_HELP),
     ("import --help", IMPORT_HELP),
     ("compare --help", COMPARE_HELP),
     ("generate --help", GENERATE_HELP),

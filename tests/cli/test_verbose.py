@@ -116,8 +116,19 @@ def try_hints(tried: Tried) -> None:
     try_each(tried, "replay base image", told("fault 14 schedule line 1", "file SCHEDULE image",
                                               "reason the line is malformed", "hint it is a heap image"))
     tried.write("image", packed)
-    try_each(tried, "import image out", told(NAME, "file DUMP image",
-                                             "hint it is packed by gzip, gunzip -c DUMP | pcompact import - IMAGE reads it"))
+    try_each(tried, "import image out", told(NAME, "file DUMP image", "hint gunzip -c image | pcompact import - out"))
+    for name, shown in (("a b", "'a b'"), ("it's", "'it'\\''s'")):
+        tried.write(name, packed)
+        tried.run(["import", name, "out"], told(NAME, f"file DUMP {name}", f"hint gunzip -c {shown} | pcompact import - out"))
+    tried.write("dump", dump)
+    try_each(tried, "compare image dump", told(NAME, "file BEFORE image", "hint gunzip -c image | pcompact compare - dump"))
+    try_each(tried, "compare dump image", told(NAME, "file AFTER image", "hint gunzip -c image | pcompact compare dump -"))
+    tried.run(["compare", "-", "image"], told(NAME, "file AFTER image", "hint it is packed by gzip, gunzip unpacks it"), input=dump)
+    for content, hint in ((b"JAVA PROFILE 1.0.3\0" + bytes(40),
+                           "it is a heap dump of Android, hprof-conv of its tools makes one of version 1.0.2 of it"),
+                          (b"\x89PNG\r\n\x1a\n" + bytes(40), "it is a picture (PNG)")):
+        tried.write("image", content)
+        try_each(tried, "import image out", told(NAME, "file DUMP image", f"hint {hint}"))
 
 
 def try_missing(tried: Tried) -> None:
@@ -230,8 +241,12 @@ def try_dumps(tried: Tried) -> None:
     """What `import` says of dumps: the file, where there is something wrong with it."""
     tried.write("dump", DUMP)
     tried.write("cut", DUMP[:-1])
+    short = "hint it is cut short, as by a full disk, or it is still being written"
     for words, said in (("import cut out", CUT), ("import cut out --atomic --live-only", CUT)):
-        try_each(tried, words, told(said, f"file DUMP {words.split()[1]}"))
+        try_each(tried, words, told(said, f"file DUMP {words.split()[1]}", short))
+    # Another text that is shorter than the head of a dump isn't one that is cut.
+    tried.write("cut", "JAVA")
+    try_each(tried, "import cut out", told("byte 4: the dump ends here, inside a record", "file DUMP cut"))
     try_each(tried, "import base out", told(NAME, "file DUMP base", "hint it is a heap image"))
     to = dump_writer.Writer()
     array = to.primitives(8, 11, [0] * 200_000) + to.references(4_000_000, [])

@@ -144,9 +144,13 @@ each board --workers 2
 each board twice
 dump=$top/examples/dumps/four.hprof
 head -c 300 "$dump" >"$room/cut_dump"
+weak=$room/weak_dump
+(cd "$top" && python3 -B -c "import sys; from tests.cli.test_import import weak_dump; sys.stdout.buffer.write(weak_dump())") >"$weak" || exit 2
 each import "$dump" "$room/made/out" --region-log 3
 each import "$dump" "$room/made/out" --live-only
 each import "$dump" "$room/made/out" --version 3
+each import "$weak" "$room/made/out" --weak --pack
+each import "$weak" "$room/made/out" --weak-soft --live-only
 each import "$dump" "$room/made/out" --atomic
 each import "$dump" "$room/made/out" --classes "$room/made/list" --histogram 5
 each import "$dump" "$room/made/out" --classes "$room/made/list" --atomic

@@ -142,7 +142,7 @@ dump=$top/examples/dumps/four.hprof
 head -c 300 "$dump" >"$room/cut_dump"
 each import "$dump" "$room/made/out" --region-log 3
 each import "$dump" "$room/made/out" --live-only
-each import "$dump" "$room/made/out" --version 3
+each import "$dump" "$room/made/out" --version 3 --weak --pack
 each import "$dump" "$room/made/out" --classes "$room/made/list" --histogram 5
 each import "$room/cut_dump" "$room/made/out"
 each compare "$dump" "$dump"

@@ -110,7 +110,7 @@ each upgrade "$base" "$room/made" --atomic
 each upgrade "$room/cut" "$room/made" --atomic
 each record "$base" "$room/made" "$room/made_schedule" --workers 1 --atomic
 each import "$dump" "$room/made" --region-log 3
-each import "$dump" "$room/made" --live-only --atomic
+each import "$dump" "$room/made" --live-only --atomic --weak
 each import "$dump" "$room/made" --classes "$room/made_schedule" --histogram 5
 each import "$room/cut_dump" "$room/made"
 each compare "$dump" "$dump" --explain

@@ -23,10 +23,10 @@ def drawn(chance: random.Random) -> bytes:
     return bytes(data[:chance.randrange(len(data))] if chance.randrange(12) == 0 else data)
 
 
-def answer_of(data: bytes, log: int, allowance: int, live_only: bool, version: int | None) -> tuple[str, Answer]:
+def answer_of(data: bytes, log: int, allowance: int, live_only: bool, version: int | None, packs: bool) -> tuple[str, Answer]:
     """Of which kind such a dump is, and what is owed."""
     try:
-        wanted = dump_model.make(data, log, allowance, live_only, version)
+        wanted = dump_model.make(data, log, allowance, live_only, version, packs=packs)
     except dump_model.Malformed as malformed:
         offset, kind = malformed.args
         # Where a record is cut, what stands before the cut may be wrong too, and is reported first.
@@ -40,9 +40,9 @@ def answer_of(data: bytes, log: int, allowance: int, live_only: bool, version: i
 def try_dump(tried: Tried, chance: random.Random) -> str:
     """Runs `import` of one dump, and tells of which kind it was."""
     data, log, allowance, live_only = drawn(chance), chance.choice((3, 4, 9, 16)), chance.choice((0, 5)), chance.randrange(2) == 1
-    version = chance.choice((None, None, 2, 3))
+    version, packs = chance.choice((None, None, 2, 3)), chance.randrange(3) == 0
     tried.write("dump", data)
-    kind, answer = answer_of(data, log, allowance, live_only, version)
-    flags = " --live-only" * live_only + f" --version {version}" * (version is not None) + " --atomic"
+    kind, answer = answer_of(data, log, allowance, live_only, version, packs)
+    flags = " --live-only" * live_only + " --pack" * packs + f" --version {version}" * (version is not None) + " --atomic"
     tried.run(f"import dump imported --region-log {log} --allowance {allowance}{flags}", answer)
     return f"dump {kind}"

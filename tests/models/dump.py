@@ -23,6 +23,8 @@ PRIMITIVE_NAMES = {4: b"[Z", 5: b"[C", 6: b"[F", 7: b"[D", 8: b"[B", 9: b"[S", 1
 CLASS_OF_CLASSES = b"java/lang/Class"
 # The most bytes of a name that a list shows.
 MOST_SHOWN = 500
+# The classes of references that a collector doesn't follow, and of those that `--weak` follows.
+REFERENCES, SOFT = b"java/lang/ref/Reference", b"java/lang/ref/SoftReference"
 # The widest gap that counts as padding, in words.
 PADDING = {"array": 2, "class": 17, "instance": 1}
 
@@ -35,13 +37,17 @@ class Malformed(Exception):
 class Class:
     parent: int
     fields: list[int]
+    # The ids of their names.
+    names: list[int]
 
 
 @dataclasses.dataclass
 class Object:
-    """The ids of an object's references, and the bytes of its data."""
+    """The ids of an object's references, the bytes of its data, and which reference isn't followed, if one isn't."""
     references: list[int]
     data: bytes
+    kind: str
+    weak: int | None = None
 
     def words(self) -> int:
         return 1 + len(self.references) + (len(self.data) + 7) // 8
@@ -80,7 +86,7 @@ class Body:
 class Dump:
     """What a dump says."""
 
-    def __init__(self, dump: bytes):
+    def __init__(self, dump: bytes, followed: str = "all"):
         self.classes: dict[int, Class] = {}
         self.objects: dict[int, Object] = {}
         # The class and the field values of an instance, and where it stands.
@@ -91,6 +97,7 @@ class Dump:
         self.text_of_class: dict[int, int] = {}
         # The name of the class of an array of primitive values, or the id of the class of any other object; None for a class.
         self.class_of: dict[int, bytes | int | None] = {}
+        self.followed = followed
         if dump[:19] not in NAMES:
             raise Malformed(0 if len(dump) >= 19 else len(dump), "name")
         if len(dump) < 31:
@@ -151,14 +158,14 @@ class Dump:
             self.tell(id_, start)
             self.class_of[id_] = class_
             elements = body.take(count * self.id_size)
-            self.objects[id_] = Object(self.ids(elements), b"")
+            self.objects[id_] = Object(self.ids(elements), b"", "array")
         elif tag == 0x23:
             id_, _, count, code = body.id(), body.take(4), body.number(4), body.type()
             if code == REFERENCE:
                 raise Malformed(start, "primitive")
             self.tell(id_, start)
             self.class_of[id_] = PRIMITIVE_NAMES[code]
-            self.objects[id_] = Object([], body.take(count * DATA_BYTES[code]))
+            self.objects[id_] = Object([], body.take(count * DATA_BYTES[code]), "array")
         else:
             raise Malformed(start, "tag")
 
@@ -172,18 +179,18 @@ class Dump:
         for _ in range(body.number(2)):
             body.take(2)
             body.value(body.type())
-        own = Object(above[:4], b"")
+        own = Object(above[:4], b"", "class")
         for _ in range(body.number(2)):
             body.id()
             code = body.type()
             self.put(own, code, body.value(code))
         self.tell(id_, start)
         self.objects[id_] = own
-        fields = []
+        fields, names = [], []
         for _ in range(body.number(2)):
-            body.id()
+            names.append(body.id())
             fields.append(body.type())
-        self.classes[id_] = Class(above[0], fields)
+        self.classes[id_] = Class(above[0], fields, names)
         self.class_of[id_] = None
 
     def put(self, target: Object, code: int, value: bytes) -> None:
@@ -203,6 +210,23 @@ class Dump:
             class_ = self.classes[class_].parent
         return fields
 
+    def name(self, class_: int) -> bytes:
+        return self.texts.get(self.text_of_class.get(class_, 0), b"")
+
+    def referent(self, class_: int) -> int | None:
+        """Which of the references of this class's instances isn't followed."""
+        before = 0
+        while class_ != 0 and self.followed != "all":
+            if self.followed == "soft" and self.name(class_) == SOFT:
+                return None
+            made = self.classes[class_]
+            for code, name in zip(made.fields, made.names):
+                if code == REFERENCE and self.name(class_) == REFERENCES and self.texts.get(name) == b"referent":
+                    return before
+                before += code == REFERENCE
+            class_ = made.parent
+        return None
+
     def instance(self, class_: int, values: bytes, at: int) -> Object:
         fields = self.fields(class_, at) if class_ else None
         if fields is None:
@@ -210,7 +234,7 @@ class Dump:
         sizes = [self.id_size if code == REFERENCE else DATA_BYTES[code] for code in fields]
         if sum(sizes) != len(values):
             raise Malformed(at, "instance size")
-        made = Object([], b"")
+        made = Object([], b"", "class" if self.name(class_) == CLASS_OF_CLASSES else "instance", self.referent(class_))
         ends = list(itertools.accumulate(sizes, initial=0))
         for code, start, end in zip(fields, ends, ends[1:]):
             self.put(made, code, values[start:end])
@@ -228,25 +252,29 @@ def reached(dump: Dump) -> set[int]:
     found = {id_ for id_ in dump.roots if id_ in dump.objects}
     queue = collections.deque(found)
     while queue:
-        for id_ in dump.objects[queue.popleft()].references:
+        made = dump.objects[queue.popleft()]
+        for id_ in (id_ for at, id_ in enumerate(made.references) if at != made.weak):
             if id_ in dump.objects and id_ not in found:
                 found.add(id_)
                 queue.append(id_)
     return found
 
 
-def places(dump: Dump, ids: list[int], gaps: bool) -> tuple[dict[int, int], int, int]:
+def places(dump: Dump, ids: list[int], gaps: bool, packs: bool = False) -> tuple[dict[int, int], int, int]:
     """The address of each object, how far all reach, and how many gaps were left out."""
-    addresses, at, behind, dropped = {}, 0, None, 0
+    addresses, at, behind, dropped, padding = {}, 0, None, 0, 0
     for id_ in ids:
         gap = (id_ - behind) // 8 if behind is not None and gaps and id_ > behind else 0
-        if gap > WIDEST_GAP:
+        if packs and gap <= padding:
+            pass
+        elif gap > WIDEST_GAP:
             dropped += 1
         else:
             at += gap
         addresses[id_] = at
         at += dump.objects[id_].words()
         behind = id_ + 8 * dump.objects[id_].words()
+        padding = PADDING[dump.objects[id_].kind]
     return addresses, at, dropped
 
 
@@ -256,14 +284,25 @@ def most_words(version: int, region_log: int) -> int:
     return min(max_words, max_regions << region_log)
 
 
-def make(data: bytes, region_log: int = 9, allowance: int = 0, live_only: bool = False, version: int | None = None) -> Import:
-    dump = Dump(data)
+def machine_words(dump: Dump) -> dict[int, int]:
+    """How many words each object has in the machine: up to the next one, if no more than padding is between."""
+    ids, found = sorted(dump.objects), {}
+    for id_, after in itertools.zip_longest(ids, ids[1:]):
+        made = dump.objects[id_]
+        between = (after - id_) // 8 if after else None
+        found[id_] = between if between is not None and between <= made.words() + PADDING[made.kind] else made.words()
+    return found
+
+
+def make(data: bytes, region_log: int = 9, allowance: int = 0, live_only: bool = False, version: int | None = None,
+         followed: str = "all", packs: bool = False) -> Import:
+    dump = Dump(data, followed)
     live = reached(dump)
     most = most_words(version or 3, region_log)
     if not (version or live_only):
         most = min(most, max(most_words(2, region_log), 2 * sum(made.words() for made in dump.objects.values())))
     ids = sorted(live if live_only else dump.objects)
-    addresses, end, dropped = places(dump, ids, not live_only)
+    addresses, end, dropped = places(dump, ids, not live_only, packs)
     if end > most:
         if live_only:
             return Import(None, f"the reachable objects have {end} words, and {most} are the most")
@@ -275,7 +314,8 @@ def make(data: bytes, region_log: int = 9, allowance: int = 0, live_only: bool =
         made = dump.objects[id_]
         words[at] = 1 << 56 | len(made.references) << 32 | made.words()
         for f, reference in enumerate(made.references):
-            words[at + 1 + f] = addresses[reference] + 1 if reference in addresses else 0
+            is_kept = reference in (live if f == made.weak else addresses)
+            words[at + 1 + f] = addresses[reference] + 1 if is_kept else 0
         padded = made.data + bytes(-len(made.data) % 8)
         first = at + 1 + len(made.references)
         words[first:first + len(padded) // 8] = struct.unpack(f"<{len(padded) // 8}Q", padded)
@@ -324,6 +364,11 @@ class Names:
         return "array" if name[:1] == b"[" else "class" if name == CLASS_OF_CLASSES else "instance"
 
 
+FOLLOWED = {"all": "live counts what only weak, soft, phantom or final references lead to, which --weak leaves out",
+            "soft": "live doesn't count what only weak, phantom or final references lead to",
+            "strong": "live doesn't count what only weak, soft, phantom or final references lead to"}
+
+
 @dataclasses.dataclass
 class Lists:
     """The text of --classes, and the lines that --histogram adds."""
@@ -331,22 +376,24 @@ class Lists:
     histogram: str
 
 
-def lists(data: bytes, region_log: int = 9, live_only: bool = False, rows: int = 1_000_000) -> Lists:
+def lists(data: bytes, region_log: int = 9, live_only: bool = False, rows: int = 1_000_000, followed: str = "all",
+          packs: bool = False) -> Lists:
     """What `import` prints about the objects of a dump that has an image."""
-    dump = Dump(data)
-    names = Names(dump)
+    dump = Dump(data, followed)
+    names, machine = Names(dump), machine_words(dump)
     live = reached(dump)
     ids = sorted(live if live_only else dump.objects)
-    addresses, end, dropped = places(dump, ids, not live_only)
+    addresses, end, dropped = places(dump, ids, not live_only, packs)
     total = max(1, -(-end >> region_log)) << region_log
-    lines, sums = [], collections.defaultdict(lambda: [0, 0, 0, 0])
+    lines, sums = [], collections.defaultdict(lambda: [0, 0, 0, 0, 0])
     dead, padding, gaps, last, kind = 0, 0, 0, 0, None
     for id_ in ids:
         key, size = names.key(id_), 8 * dump.objects[id_].words()
-        lines.append(f"{addresses[id_]} {names.shown(key)} {size} {'live' if id_ in live else 'dead'}\n")
+        lines.append(f"{addresses[id_]} 0x{id_:x} {names.shown(key)} {size} {'live' if id_ in live else 'dead'}\n")
         at = 0 if id_ in live else 2
         sums[key][at] += 1
         sums[key][at + 1] += size
+        sums[key][4] += 8 * machine[id_]
         gap = addresses[id_] - last
         if gap <= PADDING.get(kind, 0):
             padding += gap
@@ -355,11 +402,11 @@ def lists(data: bytes, region_log: int = 9, live_only: bool = False, rows: int =
         dead += 0 if id_ in live else size
         last = addresses[id_] + size // 8
         kind = names.kind(key)
-    shown = " num  live objects    live bytes  dead objects    dead bytes  class\n"
+    shown = " num  live objects    live bytes  dead objects    dead bytes machine bytes  class\n"
     ordered = sorted(sums, key=lambda key: (-sums[key][1] - sums[key][3], key))
     for number, key in enumerate(ordered[:rows], 1):
         shown += f"{number:>4}:" + "".join(f" {count:>13}" for count in sums[key]) + f"  {names.shown(key)}\n"
-    shown += "total" + "".join(f" {sum(row[at] for row in sums.values()):>13}" for at in range(4)) + "\n"
+    shown += "total" + "".join(f" {sum(row[at] for row in sums.values()):>13}" for at in range(5)) + "\n"
     parts = ((dead, "objects that no root reaches"), (8 * padding, "padding: the machine's larger headers and alignment"),
              (8 * gaps, "wider gaps: free space, or objects that the dump leaves out"), (8 * (total - last), "after the last object"))
     shown += f"dead bytes {sum(part for part, _ in parts)}\n" + "".join(f"  {part:>13} {text}\n" for part, text in parts)
@@ -367,4 +414,6 @@ def lists(data: bytes, region_log: int = 9, live_only: bool = False, rows: int =
     lost += sum(id_ not in dump.objects for id_ in dump.roots)
     shown += f"dropped-gaps {dropped}: gaps of more than 512 words, which the image leaves out\n"
     shown += f"unresolved {lost}: references and roots to objects that are not in the dump; they are null in the image\n"
+    shown += FOLLOWED[followed] + "\n"
+    shown += "live and dead bytes are those in the image, machine bytes those in the Java machine, as jmap -histo has them\n"
     return Lists("".join(lines), shown)

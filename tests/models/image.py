@@ -260,6 +260,23 @@ class Collection:
         names = "".join(f" {area} {name}" for area, name in AREAS.items() if area in shown)
         return "".join([*lines, f"live: _ none . few : half + most # all\narea:{names}\n"])
 
+    def moves(self, most: int = 64) -> str:
+        """What `map --moves` adds: where the words of each object go, or those of whole regions."""
+        bands = [(a, self.image.end(a), self.new[a] == a) for a in self.live]
+        if len(self.live) > most:
+            above = len(self.image.words) - self.prefix_end
+            each = max(1, -(-(above // self.region_words) // most)) * self.region_words
+            ends = [*range(self.prefix_end, len(self.image.words), each), len(self.image.words)]
+            bands = [(0, self.prefix_end, True)] * (self.prefix_end > 0) + [(*pair, False) for pair in itertools.pairwise(ends)]
+        return "".join(["moves:\n", *(self.band_line(*band) for band in bands)])
+
+    def band_line(self, start: int, end: int, stays: bool) -> str:
+        new = {old: to for to, old in self.origins.items()}
+        words = [new[word] for word in range(start, end) if word in new]
+        target = start if start < self.prefix_end else self.prefix_end + sum(self.prefix_end <= word < start for word in new)
+        place = f"{len(words)} stay" if stays else f"{len(words)} go to {target}"
+        return f"{start} to {end - 1}: {place if words else 'none live'}\n"
+
     def map_line(self) -> str:
         words, live = len(self.image.words), len(self.owner)
         return f"words {words} live {live} dead {words - live} prefix {self.prefix_end} top {self.top} filled {len(self.to_fill)}\n"

@@ -18,6 +18,7 @@ const shown = () => ({
   pending: Array.from(id('regions').children, (cell) => Number(cell.dataset.pending || 0)),
   label: id('line').textContent,
   slider: Number(id('slider').value),
+  words: Array.from(id('words-now').querySelectorAll('td'), (cell) => cell.title),
 });
 const press = (key) => document.dispatchEvent(new KeyboardEvent('keydown', { key, cancelable: true }));
 for (const line of WANTED.lines) {

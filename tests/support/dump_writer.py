@@ -33,7 +33,8 @@ class Writer:
         return bytes([tag]) + self.id(number) + more
 
     def class_(self, number: int, parent: int = 0, fields: list[int] = (), statics: list[tuple[int, int]] = (),
-               constants: list[tuple[int, int]] = (), others: tuple[int, int, int] = (0, 0, 0)) -> bytes:
+               constants: list[tuple[int, int]] = (), others: tuple[int, int, int] = (0, 0, 0),
+               names: list[int] | None = None) -> bytes:
         body = b"\x20" + self.id(number) + bytes(4) + self.id(parent)
         body += b"".join(self.id(other) for other in others) + self.id(0) * 2 + bytes(4)
         body += struct.pack(">H", len(constants))
@@ -43,7 +44,13 @@ class Writer:
         for code, static in statics:
             body += self.id(1) + bytes([code]) + self.value(code, static)
         body += struct.pack(">H", len(fields))
-        return body + b"".join(self.id(1) + bytes([code]) for code in fields)
+        return body + b"".join(self.id(name) + bytes([code]) for name, code in zip(names or [1] * len(fields), fields))
+
+    def name(self, text: int, name: bytes, class_: int = 0) -> None:
+        """Writes a text, as the name of a class if one is given."""
+        self.record(0x01, self.id(text) + name)
+        if class_:
+            self.record(0x02, struct.pack(">I", text) + self.id(class_) + bytes(4) + self.id(text))
 
     def instance(self, number: int, class_: int, values: list[tuple[int, int]] = (), length: int | None = None) -> bytes:
         data = b"".join(self.value(code, value) for code, value in values)

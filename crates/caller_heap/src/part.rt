@@ -1,9 +1,10 @@
 //! A worker's part in a collection, as its host keeps it.
-ghost use Rattle.std.specs.Prelude.{◌≡◌, ◌⊎◌, ◌≤◌, ◌||◌, false, ℕ, List, [], All, Option, Some, None, Err, IfOk, OnOk, IfErr, IfSome, IfNone, is_some, vec_len, map, option_map};
+ghost use Rattle.std.specs.Prelude.{◌≡◌, ◌⊎◌, ◌≤◌, ◌||◌, false, ℕ, List, [], All, Option, Some, None, Err, IfOk, OnOk, IfErr, IfSome, IfNone, MatchOption, is_some, vec_len, map, option_map};
 ghost use Rattle.std.specs.Vec.{vec_capacity};
-ghost use Rattle.object_heap.specs.HeapImage.{HeapImage, heap_words};
+ghost use Rattle.object_heap.specs.HeapImage.{HeapImage, heap_words, is_live_word};
 ghost use Rattle.object_heap.specs.Reachable.{is_listed};
 ghost use Rattle.image_streams.specs.declared.fault.Fault.TheVariants.{Memory, Workers, Length};
+ghost use Rattle.mark_bitmap.specs.Marks.{IsObjectOver};
 ghost use Rattle.coded_marking.specs.Marking.{Marks};
 ghost use Rattle.coded_redirection.specs.References.{redirected_words};
 ghost use Rattle.collector.specs.Collections.{IfKept, IfLost};
@@ -95,6 +96,17 @@ impl Part {
     {
         match (&self.share, &self.slide) {
             (None, Some(planned)) => planned.slide().next_object(from),
+            _ => None,
+        }
+    }
+
+    /// The address of the object of the planned slide that has the word at this address. Without a planned slide there is none.
+    pub fn object_over(&self, address: u64) -> Option<u64>
+        ensures slide { IfSome (planned_in self.now.share self.now.slide) (λ image. MatchOption result (is_live_word image address ≡ false) (IsObjectOver image address)) }
+        ensures none { IfNone (planned_in self.now.share self.now.slide) (result ≡ None) }
+    {
+        match (&self.share, &self.slide) {
+            (None, Some(planned)) => planned.slide().object_over(address),
             _ => None,
         }
     }

@@ -1,6 +1,7 @@
 //! Slides of opaque objects: of each nothing is known but where it lies.
-ghost use Rattle.std.specs.Prelude.{◌≡◌, ◌<◌, ◌≤◌, ◌⊎◌, ℕ, List, [], All, IfOk, IfErr, Some, is_some, true, length, slice_index_or, vec_len};
-ghost use Rattle.object_heap.specs.HeapImage.{AreBlocks, region_count};
+ghost use Rattle.std.specs.Prelude.{◌≡◌, ◌<◌, ◌≤◌, ◌⊎◌, ℕ, List, [], All, IfOk, IfErr, Some, MatchOption, is_some, true, false, length, slice_index_or, vec_len};
+ghost use Rattle.object_heap.specs.HeapImage.{AreBlocks, is_live_word, region_count};
+ghost use Rattle.mark_bitmap.specs.Marks.{IsObjectOver};
 ghost use Rattle.image_streams.specs.declared.fault.Fault.TheVariants.{Memory, Workers};
 ghost use Rattle.collector.specs.Collections.{figures_of};
 ghost use Rattle.collector.specs.NewPlaces.{IsNewPlace};
@@ -100,6 +101,13 @@ impl Slide {
         ensures { IsNextObject self.now from result }
     {
         self.survey.marks().next_begin(from)
+    }
+
+    /// The address of the object that has the word at this address, its first or not.
+    pub fn object_over(&self, address: u64) -> Option<u64>
+        ensures { MatchOption result (is_live_word self.now address ≡ false) (IsObjectOver self.now address) }
+    {
+        self.survey.marks().object_over(address)
     }
 
     /// What is known of the objects: their marks, and the plan of the slide.

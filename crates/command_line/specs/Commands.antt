@@ -100,8 +100,9 @@ rooted_version_rule = number_rule (codes "version") 2 3
 abbrev pub import_words : App
 import_words =
     with_rule (with_rule (with_rule (with_rule (with_rule (with_rule (with_rule (with_rule (with_rule (with_rule (with_rule (with_rule (with_rule
+    (with_rule (with_rule (with_rule
     (new_app (codes "import")) (file_rule (codes "DUMP"))) (file_rule (codes "IMAGE"))) region_log_rule) allowance_rule) rooted_version_rule)
-    (flag_rule (codes "live-only"))) classes_rule) histogram_rule) json_rule) stats_rule) progress_rule) atomic_rule) verbose_rule
+    (flag_rule (codes "live-only"))) (flag_rule (codes "weak"))) (flag_rule (codes "weak-soft"))) (flag_rule (codes "pack"))) classes_rule) histogram_rule) json_rule) stats_rule) progress_rule) atomic_rule) verbose_rule
 
 -- the definition of `compare`
 abbrev pub compare_words : App
@@ -146,6 +147,20 @@ generate_words =
     (new_app (codes "generate")) (file_rule (codes "IMAGE"))) words_rule) live_rule) (required region_log_rule)) seed_rule) refs_rule)
     version_rule) allowance_rule) progress_rule) atomic_rule) verbose_rule
 
+-- the option `--step`, with a number of 64 bits
+abbrev pub step_rule : Rule
+step_rule = record (new_rule (codes "step")) {
+  long = Some (codes "step");
+  value_names = 1;
+  parser = Some (Unsigned 0 18446744073709551615);
+}
+
+-- the definition of `reduce`
+abbrev pub reduce_words : App
+reduce_words =
+    with_rule (with_rule (with_rule (with_rule (with_rule (with_rule (new_app (codes "reduce")) (file_rule (codes "IMAGE")))
+    (file_rule (codes "OUT"))) step_rule) progress_rule) atomic_rule) verbose_rule
+
 -- the definition of `order`
 abbrev pub order_words : App
 order_words =
@@ -179,7 +194,7 @@ svg_rule = record (new_rule (codes "svg")) { long = Some (codes "svg"); value_na
 abbrev pub map_words : App
 map_words =
     with_rule (with_rule (with_rule (with_rule (with_rule (with_rule (with_shape_rules (with_rule (with_rule (with_rule (with_rule (with_rule
-    (new_app (codes "map")) (file_rule (codes "IMAGE"))) (flag_rule (codes "after"))) width_rule) height_rule) svg_rule))
+    (with_rule (new_app (codes "map")) (file_rule (codes "IMAGE"))) (flag_rule (codes "after"))) (flag_rule (codes "moves"))) width_rule) height_rule) svg_rule))
     (flag_rule (codes "letters"))) (flag_rule (codes "color"))) (flag_rule (codes "no-color"))) atomic_rule) progress_rule) verbose_rule
 
 -- the option `--html`, with a file name
@@ -210,5 +225,6 @@ listed =
     ∷ import_words
     ∷ compare_words
     ∷ generate_words
+    ∷ reduce_words
     ∷ board_words
     ∷ []

@@ -2,7 +2,7 @@ use Rattle.std.specs.Prelude.{◌≡◌, ⊤, ℕ, Bool, Option, None, codes, fa
 use Rattle.clap.specs.Walk.{Text as Name}
 use Rattle.command_line.specs.declared.commands.import.Import.{Import as ImportCall}
 use Rattle.command_line.specs.declared.request.Request.{Request}
-use Rattle.command_line.specs.declared.request.Request.TheVariants.{Board, BoardSteps, Summary, Collect, Verify, Record, Replay, Upgrade, Import, Compare, Generate, Order, Text, Assemble, Map, Timeline, Show}
+use Rattle.command_line.specs.declared.request.Request.TheVariants.{Board, BoardSteps, Summary, Collect, Verify, Record, Replay, Upgrade, Import, Compare, Generate, Reduce, Order, Text, Assemble, Map, Timeline, Show}
 use Rattle.command_line.specs.declared.unread.Unread.{Unread}
 use Rattle.command_line.specs.declared.unread.Unread.TheVariants.{Usage, NoCommand, Memory}
 
@@ -19,6 +19,7 @@ IsFor name (Upgrade call) = name ≡ codes "upgrade"
 IsFor name (Import call) = name ≡ codes "import"
 IsFor name (Compare call) = name ≡ codes "compare"
 IsFor name (Generate call) = name ≡ codes "generate"
+IsFor name (Reduce call) = name ≡ codes "reduce"
 IsFor name (Order call) = name ≡ codes "order"
 IsFor name (Text call) = name ≡ codes "text"
 IsFor name (Assemble call) = name ≡ codes "assemble"

@@ -16,6 +16,7 @@ pub(crate) mod import;
 pub(crate) mod map;
 pub(crate) mod order;
 pub(crate) mod record;
+pub(crate) mod reduce;
 pub(crate) mod replay;
 pub(crate) mod summary;
 pub(crate) mod text;
@@ -35,6 +36,7 @@ use import::Import;
 use map::Map;
 use order::Order;
 use record::Record;
+use reduce::Reduce;
 use replay::Replay;
 use std::alloc::{AllocError, Global};
 use summary::Summary;
@@ -65,7 +67,7 @@ pub fn words<'a>(alloc: Global) -> Result<Command<'a>, AllocError>
 }
 
 /// The definitions of the commands, in the order of help.
-fn definitions() -> [Definition; 15]
+fn definitions() -> [Definition; 16]
     ensures { map app_in result ≡ listed }
 {
     [
@@ -83,6 +85,7 @@ fn definitions() -> [Definition; 15]
         import::DEFINITION,
         compare::DEFINITION,
         generate::DEFINITION,
+        reduce::DEFINITION,
         board::DEFINITION,
     ]
 }
@@ -147,6 +150,7 @@ fn parse_command<'a>(name: &str, matches: &ArgMatches<'a>) -> Option<Request<'a>
         "import" => Import::request(matches),
         "compare" => Compare::request(matches),
         "generate" => Generate::request(matches),
+        "reduce" => Reduce::request(matches),
         _ => None,
     }
 }

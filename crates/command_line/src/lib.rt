@@ -39,6 +39,7 @@ pub use commands::import::{Import, lines_call_import};
 pub use commands::map::{Look, Map, lines_call_map};
 pub use commands::order::{Order, lines_call_order};
 pub use commands::record::{Record, line_calls_record};
+pub use commands::reduce::{Reduce, lines_call_reduce};
 pub use commands::replay::{Replay, line_calls_replay};
 pub use commands::summary::{Summary, lines_call_summary};
 pub use commands::text::{Text, lines_call_text};

@@ -8,6 +8,7 @@ use crate::commands::import::Import;
 use crate::commands::map::Map;
 use crate::commands::order::Order;
 use crate::commands::record::Record;
+use crate::commands::reduce::Reduce;
 use crate::commands::replay::Replay;
 use crate::commands::summary::Summary;
 use crate::commands::text::Text;
@@ -31,6 +32,7 @@ pub enum Request<'a> {
     Import(Import<'a>),
     Compare(Compare<'a>),
     Generate(Generate<'a>),
+    Reduce(Reduce<'a>),
     Order(Order<'a>),
     Text(Text<'a>),
     Assemble(Assemble<'a>),

@@ -1,7 +1,7 @@
 -- A histogram of classes, as a JSON list.
 use Rattle.std.specs.Prelude.{ℕ, List, [], ◌∷◌, ◌++◌, ◌==◌, codes, if◌then◌else◌}
 use Rattle.command_support.specs.declared.json.class_place.ClassColumn.{ClassColumn}
-use Rattle.command_support.specs.declared.json.class_place.ClassColumn.TheVariants.{LiveObjects, LiveBytes, DeadObjects, DeadBytes}
+use Rattle.command_support.specs.declared.json.class_place.ClassColumn.TheVariants.{LiveObjects, LiveBytes, DeadObjects, DeadBytes, MachineBytes}
 use Rattle.command_support.specs.declared.json.class_place.ClassPlace.{ClassPlace}
 use Rattle.command_support.specs.declared.json.class_place.ClassPlace.TheVariants.{Head, First, Next, Number, Before, In, BeforeName, Name, Rest}
 
@@ -10,7 +10,8 @@ abbrev pub place_behind : ClassColumn → ClassPlace
 place_behind LiveObjects = Before LiveBytes
 place_behind LiveBytes = Before DeadObjects
 place_behind DeadObjects = Before DeadBytes
-place_behind DeadBytes = BeforeName
+place_behind DeadBytes = Before MachineBytes
+place_behind MachineBytes = BeforeName
 
 -- what stands before a number of this column
 abbrev pub class_column_name : ClassColumn → List ℕ
@@ -18,6 +19,7 @@ class_column_name LiveObjects = codes "{\"live_objects\":"
 class_column_name LiveBytes = codes ",\"live_bytes\":"
 class_column_name DeadObjects = codes ",\"dead_objects\":"
 class_column_name DeadBytes = codes ",\"dead_bytes\":"
+class_column_name MachineBytes = codes ",\"machine_bytes\":"
 
 -- a space, the first letter of `total`, or another byte
 abbrev pub by_begin : {X : Type 0} → ℕ → X → X → X → X

@@ -8,6 +8,8 @@ pub(crate) mod failed_call;
 pub(crate) mod hint;
 pub(crate) mod printable;
 pub(crate) mod reason;
+mod shell_word;
+mod unpacking;
 
 use crate::failure::Failure;
 use crate::files::content::Content;
@@ -22,6 +24,7 @@ use reason::{LineReason, Reason};
 use std::alloc::AllocError;
 use std::io;
 use std::io::Write;
+use unpacking::Unpacking;
 
 /// A failure with the details that follow its line.
 #[derive(Drop)]
@@ -179,7 +182,7 @@ impl Trouble {
             reason.print(err)?;
         }
         if let Some(hint) = &self.hint {
-            writeln!(err, "pcompact: hint {hint}")?;
+            print_hint(*hint, Unpacking::of(named, self.file), err)?;
         }
         match &self.explanation {
             Some(lines) => err.write_all(lines.as_bytes()),
@@ -192,6 +195,20 @@ impl Trouble {
             Failure::Fault(fault) => Some(*fault),
             _ => None,
         }
+    }
+}
+
+/// Writes the line of a hint: of a packed dump the command that reads it, if there is one.
+fn print_hint<B: Write>(
+    hint: Hint,
+    unpacking: Option<Unpacking<'_>>,
+    err: &mut B,
+) -> io::Result<()> {
+    match (hint, unpacking) {
+        (Hint::Has(Content::Packed, Content::Dump), Some(command)) => {
+            writeln!(err, "pcompact: hint {command}")
+        }
+        _ => writeln!(err, "pcompact: hint {hint}"),
     }
 }
 

@@ -13,7 +13,6 @@
 
 mod names;
 mod reading;
-mod texts;
 mod tracing;
 
 pub use names::number_classes;

@@ -1,7 +1,6 @@
 //! The names of the classes of dumps, and numbers that two dumps have in common.
 use crate::reading::DumpGraph;
-use crate::texts::Texts;
-use dump_objects::{CLASS_OBJECTS, Inventory};
+use dump_objects::{CLASS_OBJECTS, Inventory, Texts};
 use object_pairs::{Object, Root};
 use std::alloc::{AllocError, Global};
 
@@ -63,7 +62,7 @@ fn set_name(
         .objects
         .class_number(&inventory.classes, name.class);
     let text = match inventory.names.index_of_text(name.text) {
-        Some(place) => texts.text(place),
+        Some(index) => texts.text(texts.place(index)),
         None => &[],
     };
     if class == 0 || text.is_empty() {

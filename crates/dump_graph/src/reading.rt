@@ -4,7 +4,7 @@ ghost use Rattle.std.specs.Io.KnownBytes.{IsAtEnd};
 
 use crate::names::names_of;
 use crate::tracing::{Trace, Tracing};
-use dump_objects::{Inventory, UnsealedHeap};
+use dump_objects::Inventory;
 use dump_records::ImportError;
 use heap_image::Intake;
 use object_pairs::Graph;
@@ -34,16 +34,9 @@ pub fn read_graph<R: Intake>(
         → IsTrue (R.has_failed first.new) ⊎ IsTrue (R.has_failed second.new) }
 {
     let mut inventory = Inventory::of(alloc, first, second, true)?;
-    find_all(alloc, &mut inventory)?;
+    inventory.index(alloc)?;
     let trace = Tracing::of(alloc, &inventory, second)?;
     Ok(graph_of(alloc, &inventory, trace)?)
-}
-
-/// Makes the objects of a dump be found by their ids. Their addresses, which no one needs, are in a heap that has no room for them.
-fn find_all(alloc: Global, inventory: &mut Inventory) -> Result<(), AllocError> {
-    let mut none = UnsealedHeap::new(alloc, 3, 1)?;
-    inventory.objects.place(false, &mut none);
-    Ok(())
 }
 
 /// The graph of what was read.

@@ -1,19 +1,14 @@
 //! The second reading of a dump, which notes the references of its objects, and checksums of their data.
-ghost use Rattle.std.specs.Prelude.{◌<◌, ◌≤◌, OnOk, ◌≡◌, IsTrue, ◌≢◌};
+ghost use Rattle.std.specs.Prelude.{OnOk, ◌≡◌, IsTrue, ◌≢◌};
 ghost use Rattle.std.specs.Io.KnownBytes.{IsAtEnd};
 
-use crate::texts::Texts;
-use dump_objects::{CLASS_OBJECTS, Inventory};
+use dump_objects::{CLASS_OBJECTS, Inventory, Texts, ValueVisitor};
 use dump_records::{
-    Contents, Dump, FieldType, ImportError, ObjectKind, ObjectRecord, Problem, Record,
-    RecordVisitor,
+    Contents, Dump, ImportError, ObjectKind, ObjectRecord, Problem, Record, RecordVisitor,
 };
 use heap_image::Intake;
 use object_pairs::{Object, Root};
 use std::alloc::{AllocError, Global};
-
-/// The name of the class that declares the references that a collector treats in its own way.
-const REFERENCE: &[u8] = b"java/lang/ref/Reference";
 
 /// The checksum of no bytes, and the factor for each byte (FNV-1a of 64 bits).
 const NO_BYTES: u64 = 0xCBF2_9CE4_8422_2325;
@@ -42,8 +37,8 @@ pub(crate) struct Tracing<'a> {
     /// The index after the last object in the order of ids, where the next one often is.
     next: usize,
     done: usize,
-    /// The number of the class `java.lang.ref.Reference`, or 0 while its name is unknown.
-    hiding: u32,
+    /// Whether the references of the current class are hidden.
+    is_hiding: bool,
     /// The object that is being read.
     current: Object,
     trace: Trace,
@@ -63,7 +58,7 @@ impl Tracing<'_> {
             inventory,
             next: 0,
             done: 0,
-            hiding: 0,
+            is_hiding: false,
             current: NO_OBJECT,
             trace: Trace::new(alloc, inventory)?,
         };
@@ -86,36 +81,6 @@ impl Tracing<'_> {
             return Err(dump.problem(Problem::Changed));
         }
         Ok(trace)
-    }
-
-    /// Keeps a text if it is the name of a class.
-    fn keep_text<R: Intake>(
-        &mut self,
-        dump: &mut Dump,
-        source: &mut R,
-        id: u64,
-    ) -> Result<(), ImportError>
-        ensures input { result ≡ Err ImportError.Input → IsTrue (R.has_failed source.new) }
-    {
-        let Some(index) = self.inventory.names.index_of_text(id) else {
-            return Ok(());
-        };
-        self.trace.texts.read(dump, source, index)?;
-        self.notice_hiding(index);
-        Ok(())
-    }
-
-    /// Notes the class of the name with this index, if it hides references.
-    fn notice_hiding(&mut self, index: usize) {
-        if self.trace.texts.text(index) != REFERENCE {
-            return;
-        }
-        if let Some(name) = self.inventory.names.as_slice().get(index) {
-            let inventory = self.inventory;
-            self.hiding = inventory
-                .objects
-                .class_number(&inventory.classes, name.class);
-        }
     }
 
     /// Notes a root, if it leads to an object of the dump.
@@ -151,11 +116,9 @@ impl Tracing<'_> {
         ensures input { result ≡ Err ImportError.Input → IsTrue (R.has_failed source.new) }
     {
         let (index, class, contents) = self.begin(dump, record)?;
-        match record.kind {
-            ObjectKind::Class => self.trace_class(dump, source)?,
-            ObjectKind::Instance { .. } => self.trace_fields(dump, source, class)?,
-            ObjectKind::Array { contents, .. } => self.trace_elements(dump, source, contents)?,
-        }
+        let inventory = self.inventory;
+        let values = inventory.values_of(record.kind, class);
+        values.read(dump, source, self)?;
         self.end(dump, index, contents)
     }
 
@@ -168,14 +131,9 @@ impl Tracing<'_> {
     ) -> Result<(usize, u32, Contents), ImportError>
         ensures { result ≢ Err ImportError.Input }
     {
-        let Some(place) = self.inventory.objects.find(record.id, self.next) else {
-            return Err(dump.problem(Problem::Changed));
-        };
+        let (place, contents) = self.inventory.locate(dump, record, self.next)?;
         self.next = place.index.saturating_add(1);
-        let contents = match self.inventory.contents_of(record, place.class) {
-            Ok(contents) => contents,
-            Err(problem) => return Err(dump.problem(problem)),
-        };
+        self.is_hiding = false;
         self.current = Object {
             id: record.id,
             first: self.trace.references.len(),
@@ -230,114 +188,6 @@ impl Tracing<'_> {
         self.current.checksum = checksum;
         self.current.data_bytes = self.current.data_bytes.saturating_add(bytes.len() as u64);
     }
-
-    /// Reads and notes a value of this type. A hidden reference counts as null.
-    fn trace_value<R: Intake>(
-        &mut self,
-        dump: &mut Dump,
-        source: &mut R,
-        value: FieldType,
-        is_hidden: bool,
-    ) -> Result<(), ImportError>
-        ensures input { result ≡ Err ImportError.Input → IsTrue (R.has_failed source.new) }
-    {
-        if let FieldType::Reference = value {
-            let id = dump.id(source)?;
-            let number = if is_hidden { 0 } else { self.number_of(id) };
-            return Ok(self.put_reference(number)?);
-        }
-        let count = usize::from(value.data_bytes());
-        dump.window.need(source, count)?;
-        self.put_data(dump.window.front(count));
-        dump.window.pass(count);
-        Ok(())
-    }
-
-    /// Reads and notes this many bytes of data.
-    fn trace_data<R: Intake>(
-        &mut self,
-        dump: &mut Dump,
-        source: &mut R,
-        bytes: u64,
-    ) -> Result<(), ImportError>
-        ensures input { result ≡ Err ImportError.Input → IsTrue (R.has_failed source.new) }
-    {
-        let mut rest = bytes;
-        while rest > 0 {
-            let count = dump.window.piece(source, rest, 1)?;
-            self.put_data(dump.window.front(count));
-            dump.window.pass(count);
-            rest -= count as u64;
-        }
-        Ok(())
-    }
-
-    /// Reads and notes the references of the current class and its static fields, and skips the rest of it.
-    fn trace_class<R: Intake>(&mut self, dump: &mut Dump, source: &mut R) -> Result<(), ImportError>
-        ensures input { result ≡ Err ImportError.Input → IsTrue (R.has_failed source.new) }
-    {
-        for id in dump.class_head(source)? {
-            self.put_reference(self.number_of(id))?;
-        }
-        let count = dump.window.number(source, 2)?;
-        for _ in 0..count {
-            let field = dump.field(source)?;
-            self.trace_value(dump, source, field, false)?;
-        }
-        dump.skip_fields(source)
-    }
-
-    /// Reads and notes the instance fields of the class with this number, then those of its superclasses.
-    fn trace_fields<R: Intake>(
-        &mut self,
-        dump: &mut Dump,
-        source: &mut R,
-        class: u32,
-    ) -> Result<(), ImportError>
-        ensures input { result ≡ Err ImportError.Input → IsTrue (R.has_failed source.new) }
-    {
-        let classes = &self.inventory.classes;
-        let mut class = class;
-        for _ in 0..=classes.len() {
-            if class == 0 {
-                break;
-            }
-            self.trace_values(dump, source, classes.fields(class), class == self.hiding)?;
-            class = classes.next(class);
-        }
-        Ok(())
-    }
-
-    /// Reads and notes values of these types.
-    fn trace_values<R: Intake>(
-        &mut self,
-        dump: &mut Dump,
-        source: &mut R,
-        types: &[FieldType],
-        are_hidden: bool,
-    ) -> Result<(), ImportError>
-        ensures input { result ≡ Err ImportError.Input → IsTrue (R.has_failed source.new) }
-    {
-        for value in types {
-            self.trace_value(dump, source, *value, are_hidden)?;
-        }
-        Ok(())
-    }
-
-    /// Reads and notes the elements of an array.
-    fn trace_elements<R: Intake>(
-        &mut self,
-        dump: &mut Dump,
-        source: &mut R,
-        contents: Contents,
-    ) -> Result<(), ImportError>
-        ensures input { result ≡ Err ImportError.Input → IsTrue (R.has_failed source.new) }
-    {
-        for _ in 0..contents.references {
-            self.trace_value(dump, source, FieldType::Reference, false)?;
-        }
-        self.trace_data(dump, source, contents.data_bytes)
-    }
 }
 
 /// What stands for an object that isn't read yet.
@@ -374,6 +224,32 @@ impl Trace {
     }
 }
 
+impl ValueVisitor for Tracing<'_> {
+    /// The references that `java.lang.ref.Reference` declares are hidden: a collector treats them in its own way.
+    fn enter_class(&mut self, class: u32) {
+        self.is_hiding = class == self.inventory.known.reference();
+    }
+
+    /// Notes a reference. A hidden one counts as null.
+    fn take_reference(&mut self, _dump: &Dump, id: u64) -> Result<(), ImportError>
+        ensures no_device { result ≢ Err ImportError.Input }
+    {
+        let number = if self.is_hiding {
+            0
+        } else {
+            self.number_of(id)
+        };
+        Ok(self.put_reference(number)?)
+    }
+
+    fn take_data(&mut self, _dump: &Dump, bytes: &[u8]) -> Result<(), ImportError>
+        ensures no_device { result ≢ Err ImportError.Input }
+    {
+        self.put_data(bytes);
+        Ok(())
+    }
+}
+
 impl RecordVisitor for Tracing<'_> {
     fn visit<R: Intake>(
         &mut self,
@@ -384,7 +260,10 @@ impl RecordVisitor for Tracing<'_> {
         match record {
             Record::Root { id } => Ok(self.add_root(dump, id)?),
             Record::Object(object) => self.trace_object(dump, source, object),
-            Record::Text { id } => self.keep_text(dump, source, id),
+            Record::Text { id } => {
+                let names = &self.inventory.names;
+                self.trace.texts.read(names, dump, source, id)
+            }
             Record::ClassName { .. } => Ok(()),
         }
     }

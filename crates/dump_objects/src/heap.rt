@@ -3,6 +3,7 @@ ghost use Rattle.std.specs.Prelude.{◌≡◌, ◌<◌, ◌≤◌, ◌^◌, ◌�
 ghost use Rattle.object_heap.specs.HeapImage.{AreBlocks};
 
 pub(crate) mod arrangement;
+pub(crate) mod weak_reference;
 
 use dump_records::ImportError;
 use heap_image::regions_by_log;

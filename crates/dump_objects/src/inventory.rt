@@ -1,25 +1,29 @@
 //! The first reading of a dump.
-ghost use Rattle.std.specs.Prelude.{◌≤◌, OnOk, ◌≡◌, IsTrue, ◌⊎◌};
+ghost use Rattle.std.specs.Prelude.{◌≤◌, OnOk, ◌≡◌, ◌≢◌, IsTrue, ◌⊎◌};
 ghost use Rattle.std.specs.Io.KnownBytes.{IsAtEnd};
 
 pub(crate) mod class_number;
 pub(crate) mod classes;
+pub(crate) mod known_classes;
 pub(crate) mod name_ids;
 pub(crate) mod objects;
 mod repeats;
 mod resolution;
 mod sections;
+pub(crate) mod texts;
 
 use crate::heap::UnsealedHeap;
-use crate::heap::arrangement::Arrangement;
+use crate::heap::arrangement::{Arrangement, Gaps, machine_words};
+use crate::values::Values;
 use class_number::{CLASS_OBJECTS, UNKNOWN_ARRAYS, number_of_class, number_of_code};
 use classes::Classes;
 use dump_records::{
     Contents, Dump, Elements, ImportError, ObjectKind, ObjectRecord, Problem, Record, RecordVisitor,
 };
 use heap_image::Intake;
+use known_classes::KnownClasses;
 use name_ids::NameIds;
-use objects::{Object, Objects};
+use objects::{Object, Objects, Place};
 use repeats::find_repeat;
 use std::alloc::{AllocError, Global};
 
@@ -33,6 +37,8 @@ pub struct Inventory {
     pub roots: Vec<u64>,
     /// Which text is the name of which class, if classes are wanted.
     pub names: NameIds,
+    /// The classes that a collector treats in their own ways.
+    pub known: KnownClasses,
 }
 
 impl Inventory {
@@ -54,6 +60,7 @@ impl Inventory {
             objects: Objects::new(alloc),
             roots: Vec::new(alloc),
             names: NameIds::new(alloc, wants_classes),
+            known: KnownClasses::unknown(),
         };
         let read = dump.visit_records(source, &mut inventory);
         if inventory.objects.sort() {
@@ -69,8 +76,14 @@ impl Inventory {
         self.objects.divide()?;
         self.classes.resolve(&self.objects)?;
         self.objects.size_instances(&self.classes);
+        self.known.find(&self.classes, &self.objects);
         self.names.sort();
         Ok(())
+    }
+
+    /// Computes the layout of the objects without a heap.
+    pub fn measure(&self, gaps: Gaps) -> Arrangement {
+        self.objects.measure(gaps, &self.classes, &self.known)
     }
 
     /// Assigns addresses to the objects, in a new heap with regions of `2 ^ region_log` words, and writes their first
@@ -79,15 +92,30 @@ impl Inventory {
         &mut self,
         alloc: Global,
         region_log: u32,
-        keeps_gaps: bool,
+        gaps: Gaps,
     ) -> Result<(UnsealedHeap, Arrangement), AllocError>
         requires low { 3 ≤ region_log }
         requires high { region_log ≤ 20 }
     {
-        let arrangement = self.objects.measure(keeps_gaps);
+        let arrangement = self.measure(gaps);
         let mut heap = UnsealedHeap::new(alloc, region_log, arrangement.words())?;
-        self.objects.place(keeps_gaps, &mut heap);
+        self.objects
+            .place(gaps, &self.classes, &self.known, &mut heap);
         Ok((heap, arrangement))
+    }
+
+    /// Makes the objects be found by their ids, where no one needs their words: their heap has no room for them.
+    pub fn index(&mut self, alloc: Global) -> Result<(), AllocError> {
+        let mut none = UnsealedHeap::new(alloc, 3, 1)?;
+        self.objects
+            .place(Gaps::Dropped, &self.classes, &self.known, &mut none);
+        Ok(())
+    }
+
+    /// How many words the object with this index, which has `words` words in an image, has in the machine, as far as the ids tell.
+    pub fn machine_words(&self, index: usize, words: u64) -> u64 {
+        let padding = self.objects.most_padding(index, &self.classes, &self.known);
+        machine_words(words, padding, self.objects.distance_after(index))
     }
 
     /// Replaces the ids of roots by addresses, once the objects have addresses, and drops the roots that lead to no
@@ -154,23 +182,58 @@ impl Inventory {
         let class = self.classes.add(id, parent, own)?;
         let words = own.words();
         self.objects.add(dump, id, Object::Sized { class, words })?;
-        self.add_fields(dump, source)
+        self.add_fields(dump, source, id)
     }
 
-    /// Reads and adds the instance fields of the last class.
-    fn add_fields<R: Intake>(&mut self, dump: &mut Dump, source: &mut R) -> Result<(), ImportError>
+    /// Reads and adds the instance fields of the last class, which has this id.
+    fn add_fields<R: Intake>(
+        &mut self,
+        dump: &mut Dump,
+        source: &mut R,
+        class: u64,
+    ) -> Result<(), ImportError>
         ensures input { result ≡ Err ImportError.Input → IsTrue (R.has_failed source.new) }
     {
         let count = dump.window.number(source, 2)?;
         for _ in 0..count {
-            self.classes.add_field(dump.field(source)?)?;
+            let (name, field) = dump.named_field(source)?;
+            self.known.note_field(class, name, field);
+            self.classes.add_field(field)?;
         }
         Ok(())
     }
 
+    /// The place and the contents of the object with this record, in the second reading. It is found without a search if its index
+    /// is `guess`. It is an error if the first reading hadn't the object, or it has no class or another size.
+    pub fn locate(
+        &self,
+        dump: &Dump,
+        record: ObjectRecord,
+        guess: usize,
+    ) -> Result<(Place, Contents), ImportError>
+        ensures { result ≢ Err ImportError.Input }
+    {
+        let Some(place) = self.objects.find(record.id, guess) else {
+            return Err(dump.problem(Problem::Changed));
+        };
+        match self.contents_of(record, place.class) {
+            Ok(contents) => Ok((place, contents)),
+            Err(problem) => Err(dump.problem(problem)),
+        }
+    }
+
+    /// The values of an object of this kind. `class` is the number of an instance's class.
+    pub fn values_of(&self, kind: ObjectKind, class: u32) -> Values<'_> {
+        Values {
+            classes: &self.classes,
+            kind,
+            class,
+        }
+    }
+
     /// The contents of the object with this record. `class` is the number of the class itself or of the instance's class,
     /// unless the dump has changed.
-    pub fn contents_of(&self, record: ObjectRecord, class: u32) -> Result<Contents, Problem> {
+    fn contents_of(&self, record: ObjectRecord, class: u32) -> Result<Contents, Problem> {
         match record.kind {
             ObjectKind::Class => match self.classes.own_contents(class, record.id) {
                 Some(contents) => Ok(contents),
@@ -225,8 +288,11 @@ impl RecordVisitor for Inventory {
         match record {
             Record::Root { id } => Ok(self.add_root(id)?),
             Record::Object(object) => self.add_object(dump, source, object),
-            Record::Text { .. } => Ok(()),
-            Record::ClassName { class, text } => Ok(self.names.add(class, text)?),
+            Record::Text { id } => self.known.read_text(dump, source, id),
+            Record::ClassName { class, text } => {
+                self.known.note_class(class, text);
+                Ok(self.names.add(class, text)?)
+            }
         }
     }
 }

@@ -12,12 +12,19 @@
 mod heap;
 mod inventory;
 mod live_only;
+mod values;
 
-pub use heap::arrangement::Arrangement;
+pub use heap::arrangement::{Arrangement, Gaps, machine_words};
+pub use heap::weak_reference::WeakReference;
 pub use heap::{UnsealedHeap, first_word, size};
 pub use inventory::Inventory;
 pub use inventory::class_number::{CLASS_OBJECTS, UNKNOWN_ARRAYS};
 pub use inventory::classes::{Class, Classes};
+pub use inventory::known_classes::{Followed, KnownClasses};
 pub use inventory::name_ids::{NameId, NameIds};
-pub use inventory::objects::{Object, Objects, Place};
+pub use inventory::objects::{
+    ARRAY_PADDING, CLASS_PADDING, INSTANCE_PADDING, Object, Objects, Place,
+};
+pub use inventory::texts::{TextPlace, Texts};
 pub use live_only::survivors::Survivors;
+pub use values::{ValueVisitor, Values};

@@ -279,25 +279,40 @@ impl Dump {
     {
         let count = self.window.number(source, 2)?;
         for _ in 0..count {
-            let constant = self.named_type(source, 2)?;
+            let (_, constant) = self.named_type(source, 2)?;
             self.skip_value(source, constant)?;
         }
         Ok(())
     }
 
-    /// Skips a name of this many bytes, and reads the type after it.
-    fn named_type<R: Intake>(&mut self, source: &mut R, name: u8) -> Result<FieldType, ImportError>
+    /// Reads a name of this many bytes, and the type after it.
+    fn named_type<R: Intake>(
+        &mut self,
+        source: &mut R,
+        name: u8,
+    ) -> Result<(u64, FieldType), ImportError>
         ensures input { result ≡ Err ImportError.Input → IsTrue (R.has_failed source.new) }
     {
-        let [_, code] = self.window.numbers(source, [name, 1])?;
-        self.type_of(as_u8(code))
+        let [name, code] = self.window.numbers(source, [name, 1])?;
+        Ok((name, self.type_of(as_u8(code))?))
+    }
+
+    /// Reads the id of a field's name, and its type.
+    pub fn named_field<R: Intake>(
+        &mut self,
+        source: &mut R,
+    ) -> Result<(u64, FieldType), ImportError>
+        ensures input { result ≡ Err ImportError.Input → IsTrue (R.has_failed source.new) }
+    {
+        self.named_type(source, self.ids.bytes())
     }
 
     /// Skips the name of a field, and reads its type.
     pub fn field<R: Intake>(&mut self, source: &mut R) -> Result<FieldType, ImportError>
         ensures input { result ≡ Err ImportError.Input → IsTrue (R.has_failed source.new) }
     {
-        self.named_type(source, self.ids.bytes())
+        let (_, field) = self.named_field(source)?;
+        Ok(field)
     }
 
     /// Reads an id.

@@ -5,6 +5,8 @@ use Rattle.object_heap.specs.HeapImage.{HeapImage, heap_words}
 use Rattle.heap_dump.specs.ClassNames.{name_of}
 use Rattle.heap_dump.specs.Listing.{AreObjectsOf}
 use Rattle.heap_dump.specs.Totals.{AreDeadWords, IsRanking, held, sums_of}
+use Rattle.dump_objects.specs.declared.inventory.known_classes.Followed.{Followed}
+use Rattle.dump_objects.specs.declared.inventory.known_classes.Followed.TheVariants.{All, StrongAndSoft, Strong}
 use Rattle.heap_dump.specs.declared.listing.class_names.ClassNames.{ClassNames}
 use Rattle.heap_dump.specs.declared.dead_words.DeadWords.{DeadWords}
 use Rattle.heap_dump.specs.declared.figures.ImportFigures.{ImportFigures}
@@ -24,10 +26,10 @@ bytes_of words = held (words * 8)
 abbrev pub next_column : ℕ → List ℕ
 next_column n = codes " " ++ in_columns 13 n
 
--- live objects and their bytes, then dead objects and theirs
+-- live objects and their bytes, then dead objects and theirs, then the bytes of all in the machine
 abbrev pub columns : Totals → List ℕ
 columns totals = next_column totals.live_objects ++ (next_column (bytes_of totals.live_words)
-    ++ (next_column totals.dead_objects ++ next_column (bytes_of totals.dead_words)))
+    ++ (next_column totals.dead_objects ++ (next_column (bytes_of totals.dead_words) ++ next_column (bytes_of totals.machine_words))))
 
 module _ (names : ClassNames) where
   -- the line of a class, the n-th
@@ -55,16 +57,27 @@ dead_text dead = (codes "dead bytes " ++ (decimal (bytes_of (all_dead dead)) ++ 
     ++ (part dead.gaps (codes "wider gaps: free space, or objects that the dump leaves out")
     ++ part dead.end (codes "after the last object"))))
 
--- what two figures mean
+-- what counts as live, where these references are followed
+abbrev pub followed_text : Followed → List ℕ
+followed_text All = codes "live counts what only weak, soft, phantom or final references lead to, which --weak leaves out\n"
+followed_text StrongAndSoft = codes "live doesn't count what only weak, phantom or final references lead to\n"
+followed_text Strong = codes "live doesn't count what only weak, soft, phantom or final references lead to\n"
+
+-- whose bytes the columns have
+abbrev pub bytes_note : List ℕ
+bytes_note = codes "live and dead bytes are those in the image, machine bytes those in the Java machine, as jmap -histo has them\n"
+
+-- what two figures mean, which objects count as live, and whose bytes the columns have
 abbrev pub notes_text : ImportFigures → List ℕ
 notes_text figures =
     (codes "dropped-gaps " ++ (decimal figures.dropped_gaps ++ codes ": gaps of more than 512 words, which the image leaves out\n"))
-    ++ (codes "unresolved " ++ (decimal figures.unresolved ++ codes ": references and roots to objects that are not in the dump; they are null in the image\n"))
+    ++ ((codes "unresolved " ++ (decimal figures.unresolved ++ codes ": references and roots to objects that are not in the dump; they are null in the image\n"))
+    ++ (followed_text figures.followed ++ bytes_note))
 
 -- the names of the columns, and the rows of these classes
 abbrev pub classes_text : ClassNames → List ClassTotals → List ℕ
 classes_text names classes =
-    codes " num  live objects    live bytes  dead objects    dead bytes  class\n" ++ rows_from names 1 classes
+    codes " num  live objects    live bytes  dead objects    dead bytes machine bytes  class\n" ++ rows_from names 1 classes
 
 -- the sums of all objects, the dead words, and the notes
 abbrev pub sums_text : Totals → DeadWords → ImportFigures → List ℕ

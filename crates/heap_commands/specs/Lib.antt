@@ -7,6 +7,7 @@ pub mod Import
 pub mod Map
 pub mod ObjectList
 pub mod Order
+pub mod Reduce
 pub mod Replay
 pub mod Summarize
 pub mod Text

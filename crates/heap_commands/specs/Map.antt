@@ -2,9 +2,11 @@ use Rattle.std.specs.Prelude.{◌≡◌, ◌⊎◌, ℕ, ◌*◌, nat_lt, min, m
 use Rattle.std.specs.Io.KnownBytes.{Consumes}
 use Rattle.object_heap.specs.HeapImage.{HeapImage, IsValid}
 use Rattle.heap_image.specs.ImageText.{text}
+use Rattle.heap_map.specs.Bands.{bands_of, moves_text}
 use Rattle.heap_map.specs.Cells.{cells_after, cells_before}
 use Rattle.heap_map.specs.MapFigures.{AreFiguresOf, figures_text}
 use Rattle.heap_map.specs.Text.{picture_text}
+use Rattle.heap_map.specs.declared.band.Band.{Band}
 use Rattle.heap_map.specs.declared.cell.Cell.{Cell}
 use Rattle.heap_map.specs.declared.figures.MapFigures.{MapFigures}
 use Rattle.heap_map.specs.declared.style.Shape.{Shape}
@@ -24,11 +26,16 @@ cells_shown cut = min (max cut.width 1) 1000 * min (max cut.rows 1) 100
 abbrev pub after_shown : HeapImage → Cut → Option (List Cell)
 after_shown image cut = if cut.after then Some (cells_after image (cells_shown cut)) else None
 
+-- the moves, where the cut includes them: of at most 64 objects, or of regions
+abbrev pub moves_shown : HeapImage → Cut → Option (List Band)
+moves_shown image cut = if cut.moves then Some (bands_of image 64) else None
+
 -- the picture of an image in this style
 pub record IsPicture (style : Style) (cut : Cut) (image : HeapImage) (shown : List ℕ) : Type 0 where
   pub figures : MapFigures
   pub counted : AreFiguresOf image figures
   pub printed : shown ≡ picture_text style (shape_of cut) figures (cells_before image (cells_shown cut)) (after_shown image cut)
+      ++ moves_text (moves_shown image cut)
 
 -- the line with the figures of an image
 pub record IsMapLine (image : HeapImage) (shown : List ℕ) : Type 0 where

@@ -20,7 +20,7 @@ use command_files::{Late, SystemFile, WorkDone, open_again};
 use command_line::Import;
 use command_support::{Failure, Trouble, Watched};
 use command_times::{Laps, LiveShare, Phase, Stats, Stopwatch, TimedIntake, TimedOutlet};
-use heap_dump::{ImportFigures, ListedImport, Options, import, import_listed};
+use heap_dump::{Followed, ImportFigures, ListedImport, Options, import, import_listed};
 use heap_image::{FromRead, Intake, Outlet, ToWrite, write_image_buffered};
 use histogram::push_histogram;
 use import_ending::{finished, unfinished};
@@ -167,12 +167,25 @@ impl ImportWish {
                 region_log: request.region_log,
                 allowance: request.allowance,
                 live_only: request.live_only,
+                followed: followed_by(request),
+                packs: request.pack,
                 version: requested_version(request.version),
             },
             lists_objects: request.classes.is_some(),
             rows: request.histogram,
             json: request.json,
         }
+    }
+}
+
+/// Which references a call of `import` follows.
+fn followed_by(request: &Import<'_>) -> Followed {
+    if request.weak_soft {
+        Followed::Strong
+    } else if request.weak {
+        Followed::StrongAndSoft
+    } else {
+        Followed::All
     }
 }
 
@@ -242,8 +255,8 @@ pub fn import_into<R: Intake, O: Outlet>(
     }
 }
 
-/// Room for the object of a text of this length, if it is wanted. A row of a histogram has at least 64 bytes beside the name of
-/// its class, and its object at most 73 beside digits, and two for each byte of the name.
+/// Room for the object of a text of this length, if it is wanted. A row of a histogram has at least 78 bytes beside the name of
+/// its class, and its object at most 90 beside digits, and two for each byte of the name.
 fn object_room(alloc: Global, is_wanted: bool, len: usize) -> Result<Option<Vec<u8>>, AllocError> {
     if !is_wanted {
         return Ok(None);

@@ -23,6 +23,7 @@ pub mod generate;
 pub mod import;
 pub mod map;
 pub mod order;
+pub mod reduce;
 pub mod replay;
 mod shared;
 pub mod summarize;

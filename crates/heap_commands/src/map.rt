@@ -1,9 +1,9 @@
-ghost use Rattle.std.specs.Prelude.{◌≡◌, ◌≢◌, ◌≤◌, ◌⊎◌, ◌++◌, codes, option_map, ℕ, List, IfOk, IfErr, IfSome, OnErr, IsTrue, string_bytes};
+ghost use Rattle.std.specs.Prelude.{◌≡◌, ◌≢◌, ◌≤◌, ◌⊎◌, ◌++◌, codes, option_map, None, ℕ, List, IfOk, IfErr, IfSome, OnErr, IsTrue, string_bytes};
 ghost use Rattle.std.specs.Io.KnownBytes.{Appends};
 ghost use Rattle.heap_image.specs.Refusals.{IsReason};
 ghost use Rattle.heap_map.specs.Cells.{cells_before};
 ghost use Rattle.heap_map.specs.MapFigures.{AreFiguresOf, figures_text};
-ghost use Rattle.heap_commands.specs.Map.{IsDrawing, IsMap, IsMapLine, IsPicture, IsPrinted, after_shown, cells_shown, shape_of};
+ghost use Rattle.heap_commands.specs.Map.{IsDrawing, IsMap, IsMapLine, IsPicture, IsPrinted, after_shown, cells_shown, moves_shown, shape_of};
 
 use command_files::{FileTarget, Late, SystemFile, WorkDone, different_target, open_image};
 use command_host::ImageFile;
@@ -32,7 +32,8 @@ where
     let cut = Cut {
         width,
         rows: rows_on(screen, &request, width),
-        after: request.after,
+        after: request.after || (request.moves && request.svg.is_some()),
+        moves: request.moves,
         name: request.image,
     };
     let image = open_image(rt, request.image, request.shape)?;
@@ -54,6 +55,8 @@ pub struct Cut<'a> {
     pub rows: u32,
     /// Whether the heap after its collection is shown as well.
     pub after: bool,
+    /// Whether it is shown where live words go.
+    pub moves: bool,
     /// The name of the heap's file.
     pub name: &'a str,
 }
@@ -102,6 +105,8 @@ fn width_on(screen: Screen, request: &Map<'_>) -> u32 {
 /// it has cells for.
 fn rows_on(screen: Screen, request: &Map<'_>, width: u32) -> u32 {
     match (request.height, screen.rows) {
+        // Bands lead from one row to another.
+        _ if request.svg.is_some() && request.moves => 1,
         (height, _) if request.svg.is_some() => height
             .unwrap_or(USUAL_ROWS)
             .min((MAX_DRAWN / width.saturating_add(1)).max(1)),
@@ -281,10 +286,16 @@ fn picture_of_image(
     ensures figures { IfOk result (λ picture. AreFiguresOf image.now picture.figures) }
     ensures before { IfOk result (λ picture. picture.before.cells.items ≡ cells_before image.now (cells_shown cut.entry)) }
     ensures after { IfOk result (λ picture. option_map (λ map. map.cells.items) picture.after ≡ after_shown image.now cut.entry) }
+    ensures moves { IfOk result (λ picture. option_map (λ moves. moves.bands.items) picture.moves ≡ moves_shown image.now cut.entry) }
     ensures fault { IfErr result (λ fault. fault ≡ Fault.Memory) }
 {
     let survey = Survey::of(alloc, image, &all_processors(threads))?;
-    Ok(picture_of(alloc, image, &survey, cut)?)
+    let picture = picture_of(alloc, image, &survey, cut)?;
+    if cut.moves {
+        Ok(picture.with_moves(alloc, image, &survey)?)
+    } else {
+        Ok(picture)
+    }
 }
 
 /// Makes the picture of an image that was surveyed.
@@ -298,6 +309,7 @@ fn picture_of(
     ensures figures { IfOk result (λ picture. AreFiguresOf image.now picture.figures) }
     ensures before { IfOk result (λ picture. picture.before.cells.items ≡ cells_before image.now (cells_shown cut.entry)) }
     ensures after { IfOk result (λ picture. option_map (λ map. map.cells.items) picture.after ≡ after_shown image.now cut.entry) }
+    ensures moves { IfOk result (λ picture. option_map (λ moves. moves.bands.items) picture.moves ≡ None) }
 {
     let cells = cut.cells();
     if cut.after {

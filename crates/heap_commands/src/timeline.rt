@@ -21,7 +21,7 @@ use heap_image::{
     Fault, FromRead, Image, Intake, Outlet, ToWrite, all_processors, give_all, read_image,
 };
 use heap_map::Style;
-use schedule_timeline::Names;
+use schedule_timeline::{Names, heap_words};
 use scheduler::Schedule;
 use std::alloc::{AllocError, Global};
 use std::os::unix::fs::FileExt;
@@ -280,11 +280,10 @@ fn picture_of(
 fn bytes_of(alloc: Global, followed: &Followed, wanted: Wanted<'_>) -> Result<Vec<u8>, AllocError>
     ensures { IfOk result (λ bytes. wanted.entry.form ≡ Form.Page → Has (schedule_text followed.now.timeline.schedule) bytes.items) }
 {
+    let (plan, words) = (followed.survey.plan(), followed.words.as_str());
     match wanted.form {
         Form::Drawing => Ok(followed.timeline.svg(alloc, wanted.names)?.into_bytes()),
-        Form::Page => followed
-            .timeline
-            .page(alloc, followed.survey.plan(), wanted.names),
+        Form::Page => followed.timeline.page(alloc, plan, wanted.names, words),
     }
 }
 
@@ -295,6 +294,8 @@ struct Followed {
     survey: Survey,
     /// The schedule with its bars and marks.
     timeline: schedule_timeline::Timeline,
+    /// The words of a small heap, for a page.
+    words: String,
 }
 
 /// Reads an image and a schedule, and follows the schedule on the image.
@@ -325,8 +326,13 @@ fn follow_on(
     ensures fault { IfErr result (λ unreplayed. IsReplayRefused image.now schedule.now unreplayed.fault) }
 {
     let survey = Survey::of(alloc, image, &all_processors(threads))?;
+    let words = heap_words(alloc, image, &survey)?;
     match schedule_timeline::Timeline::of(alloc, image, &survey, schedule) {
-        Ok(timeline) => Ok(Followed { survey, timeline }),
+        Ok(timeline) => Ok(Followed {
+            survey,
+            timeline,
+            words,
+        }),
         Err(fault) => Err(refused(alloc, survey.plan(), schedule, fault)),
     }
 }

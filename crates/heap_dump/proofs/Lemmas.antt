@@ -1,7 +1,9 @@
 pub mod Concats
 pub mod Increasing
+pub mod Labels
 pub mod Listings
 pub mod Sums
 pub mod Gaps
+pub mod WeakWords
 pub mod Lookups
 pub mod Names

@@ -51,6 +51,10 @@ shown_name names number (Some class) =
 abbrev pub name_of : ClassNames → ℕ → List ℕ
 name_of names number = shown_name names number (class_of names number)
 
+-- an id in hexadecimal
+abbrev pub id_text : ℕ → List ℕ
+id_text id = codes "0x" ++ digits 16 false id
+
 -- how many lines a text ends
 abbrev pub newlines : List ℕ → ℕ
 newlines text = count_by (λ byte. byte == 10) text

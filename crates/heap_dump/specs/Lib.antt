@@ -3,3 +3,4 @@ pub mod Requested
 pub mod Listing
 pub mod ClassNames
 pub mod Totals
+pub mod Weak

@@ -1,8 +1,10 @@
 -- The objects of an imported image, one by one.
-use Rattle.std.specs.Prelude.{◌≡◌, ◌≢◌, ◌⊎◌, ℕ, ◌+◌, ◌<◌, ◌≤◌, List, All, map, filter, take, length, slice_index}
+use Rattle.std.specs.Prelude.{◌≡◌, ◌≢◌, ◌⊎◌, ℕ, ◌+◌, ◌<◌, ◌≤◌, List, All, IfSome, map, filter, take, length, slice_get, slice_index}
 use Rattle.std.specs.List.{AllPairs}
+use Rattle.std.specs.List.Sorted.{IsStrictlyIncreasing}
 use Rattle.object_heap.specs.HeapImage.{HeapImage, heap_words, size_at, word_at}
 use Rattle.heap_dump.specs.declared.listing.ListedObject.{ListedObject}
+use Rattle.heap_dump.specs.declared.listing.object_labels.Label.{Label}
 
 -- the address after the last word of an object
 abbrev pub end_of_listed : ListedObject → ℕ
@@ -48,6 +50,26 @@ pub record AreObjectsOf (image : HeapImage) (objects : List ListedObject) : Type
   pub inside : All (λ object. end_of_listed object ≤ heap_words image) objects
   pub rest : (a : ℕ) → a < heap_words image → IsOutside a objects → word_at image a ≡ 0
   pub live : live_addresses objects ≡ image.live
+
+-- what the dump says of an object beside its values
+abbrev pub label_of : ListedObject → Label
+label_of object = record { id = object.id; machine_words = object.machine_words; class = object.class }
+
+-- the label with this index, if there is one, has this id
+abbrev pub HasLabel : List Label → ℕ → ℕ → Type 0
+HasLabel labels index id = IfSome (slice_get labels index) (λ label. label.id ≡ id)
+
+abbrev pub labels_of : List ListedObject → List Label
+labels_of objects = map label_of objects
+
+abbrev pub ids_of : List ListedObject → List ℕ
+ids_of objects = map (λ object. object.id) objects
+
+-- these objects have the first of these labels, and ids that ascend up to this one
+pub record AreLabelled (labels : List Label) (last : ℕ) (objects : List ListedObject) : Type 0 where
+  pub labelled : labels_of objects ≡ take (length objects) labels
+  pub ascend : IsStrictlyIncreasing (ids_of objects)
+  pub highest : All (λ id. id ≤ last) (ids_of objects)
 
 -- the image has so many objects before this address
 pub record HasObjectsBefore (image : HeapImage) (live end count : ℕ) : Type 0 where

@@ -21,13 +21,14 @@ live_words_of object = if object.is_live then object.words else 0
 abbrev pub dead_words_of : ListedObject → ℕ
 dead_words_of object = if object.is_live then 0 else object.words
 
--- how many live and dead objects there are, and their words
+-- how many live and dead objects there are, their words, and the words of all of them in the machine
 abbrev pub sums_of : List ListedObject → Totals
 sums_of objects = record {
   live_objects = held (count_by (λ o. o.is_live) objects);
   live_words = held (sum_by live_words_of objects);
   dead_objects = held (count_by (λ o. not o.is_live) objects);
   dead_words = held (sum_by dead_words_of objects);
+  machine_words = held (sum_by (λ o. o.machine_words) objects);
 }
 
 -- the objects of a class

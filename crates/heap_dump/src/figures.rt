@@ -1,4 +1,5 @@
 //! The figures of an import.
+use dump_objects::Followed;
 use std::fmt;
 
 /// The counts that [`import`](crate::import) returns with an image.
@@ -10,7 +11,7 @@ pub struct ImportFigures {
     pub objects: u64,
     /// Roots.
     pub roots: u64,
-    /// Objects that are reachable from the roots.
+    /// Objects that are reachable from the roots by references that are followed.
     pub live: u64,
     /// Objects that are not.
     pub dead: u64,
@@ -18,6 +19,8 @@ pub struct ImportFigures {
     pub dropped_gaps: u64,
     /// References and roots that lead to objects that are missing from the dump.
     pub unresolved: u64,
+    /// Which references are followed.
+    pub followed: Followed,
 }
 
 impl fmt::Display for ImportFigures {
@@ -35,6 +38,7 @@ impl fmt::Display for ImportFigures {
             dead,
             dropped_gaps,
             unresolved,
+            ..
         } = *self;
         write!(
             f,

@@ -3,3 +3,4 @@
 pub(crate) mod draft;
 pub(crate) mod packed;
 mod roots;
+mod weak;

@@ -2,19 +2,20 @@
 ghost use Rattle.std.specs.Prelude.{◌≡◌, IfOk, OnOk, IsTrue, ◌⊎◌, length};
 ghost use Rattle.std.specs.Io.KnownBytes.{IsAtEnd};
 ghost use Rattle.heap_dump.specs.Requested.{IsRequested};
-ghost use Rattle.heap_dump.specs.Listing.{AreObjectsOf};
+ghost use Rattle.std.specs.List.Sorted.{IsStrictlyIncreasing};
+ghost use Rattle.heap_dump.specs.Listing.{AreObjectsOf, ids_of};
 ghost use Rattle.heap_dump.specs.Totals.{AreDeadWords, IsRanking, sums_of};
 
 use crate::dead_words::DeadWords;
 use crate::heap::draft::{Draft, Imported};
 use crate::heap::packed::Packed;
 use crate::listing::class_names::ClassNames;
-use crate::listing::object_classes::ObjectClasses;
+use crate::listing::object_labels::ObjectLabels;
 use crate::listing::{ListedObject, list_objects};
 use crate::options::{Options, Regions};
 use crate::totals::{ClassTotals, Totals, ranking};
 use crate::transcription::transcribed::Transcribed;
-use dump_objects::{Inventory, UnsealedHeap};
+use dump_objects::{Followed, Gaps, Inventory, UnsealedHeap};
 use dump_records::ImportError;
 use heap_image::{Fault, Intake};
 use std::alloc::{AllocError, Global};
@@ -35,7 +36,7 @@ pub fn import<R: Intake>(
     ensures input { result ≡ Err ImportError.Input
         → IsTrue (R.has_failed first.new) ⊎ IsTrue (R.has_failed second.new) }
 {
-    let (imported, _) = import_classed(alloc, first, second, options, false)?;
+    let (imported, _) = import_labelled(alloc, first, second, options, false)?;
     Ok(imported)
 }
 
@@ -59,15 +60,17 @@ pub fn import_listed<R: Intake>(
     ensures requested { IfOk result (λ listed. IsRequested options listed.imported) }
     // Each object of the image once, by ascending addresses.
     ensures objects { IfOk result (λ listed. AreObjectsOf listed.imported.image listed.objects.items) }
+    // Each has an id of its own, and they are in the order of these.
+    ensures ids { IfOk result (λ listed. IsStrictlyIncreasing (ids_of listed.objects.items)) }
     ensures counted { IfOk result (λ listed. listed.imported.figures.objects ≡ length listed.objects.items) }
     ensures first_end { OnOk result (IsAtEnd (R.left first.new)) }
     ensures second_end { OnOk result (IsAtEnd (R.left second.new)) }
     ensures input { result ≡ Err ImportError.Input
         → IsTrue (R.has_failed first.new) ⊎ IsTrue (R.has_failed second.new) }
 {
-    let (imported, classes) = import_classed(alloc, first, second, options, true)?;
-    let ObjectClasses { numbers, names } = classes;
-    let objects = list_objects(alloc, &imported.image, numbers.as_slice())?;
+    let (imported, labels) = import_labelled(alloc, first, second, options, true)?;
+    let ObjectLabels { labels, names } = labels;
+    let objects = list_objects(alloc, &imported.image, labels.as_slice())?;
     if objects.len() as u64 != imported.figures.objects {
         return Err(ImportError::NoHeap(Fault::Length));
     }
@@ -103,14 +106,14 @@ impl ListedImport {
     }
 }
 
-/// Makes an image of a heap dump, and returns the classes of its objects if they are wanted.
-fn import_classed<R: Intake>(
+/// Makes an image of a heap dump, and returns the labels of its objects if their classes are wanted.
+fn import_labelled<R: Intake>(
     alloc: Global,
     first: &mut R,
     second: &mut R,
     options: Options,
     wants_classes: bool,
-) -> Result<(Imported, ObjectClasses), ImportError>
+) -> Result<(Imported, ObjectLabels), ImportError>
     ensures requested { IfOk result (λ made. IsRequested options made.0) }
     ensures first_end { OnOk result (IsAtEnd (R.left first.new)) }
     ensures second_end { OnOk result (IsAtEnd (R.left second.new)) }
@@ -120,13 +123,13 @@ fn import_classed<R: Intake>(
     let regions = options.regions()?;
     let inventory = Inventory::of(alloc, first, second, wants_classes)?;
     let built = if options.live_only {
-        live_heap(alloc, inventory, second, regions)
+        live_heap(alloc, inventory, second, regions, options.followed)
     } else {
-        whole_heap(alloc, inventory, second, regions)
+        whole_heap(alloc, inventory, second, regions, options)
     };
-    let (draft, classes) = built?;
-    let imported = draft.into_image(alloc, regions, options.allowance)?;
-    Ok((imported, classes))
+    let (draft, labels) = built?;
+    let imported = draft.into_image(alloc, regions, options)?;
+    Ok((imported, labels))
 }
 
 /// Builds the heap with all objects of a dump, and the gaps between them.
@@ -135,23 +138,27 @@ fn whole_heap<R: Intake>(
     mut inventory: Inventory,
     source: &mut R,
     regions: Regions,
-) -> Result<(Draft, ObjectClasses), ImportError>
+    options: Options,
+) -> Result<(Draft, ObjectLabels), ImportError>
     ensures end { OnOk result (IsAtEnd (R.left source.new)) }
     ensures input { result ≡ Err ImportError.Input → IsTrue (R.has_failed source.new) }
 {
-    let words = inventory.objects.measure(true).words();
-    let most = regions.most_words_with_gaps(inventory.objects.measure(false).words());
+    let (gaps, followed) = (options.gaps(), options.followed);
+    let words = inventory.measure(gaps).words();
+    let most = regions.most_words_with_gaps(inventory.measure(Gaps::Dropped).words());
     if words > most {
         // The error names the words of the reachable objects, so the dump is read again.
-        let live_words = Packed::of(alloc, inventory, source)?.survivors.words;
+        let live_words = Packed::of(alloc, inventory, followed, source)?
+            .survivors
+            .words;
         return Err(ImportError::TooManyWords {
             words,
             most,
             live_words,
         });
     }
-    let placed = inventory.place(alloc, regions.log, true)?;
-    let mut transcribed = Transcribed::of(alloc, &mut inventory, placed, source)?;
+    let placed = inventory.place(alloc, regions.log, gaps)?;
+    let mut transcribed = Transcribed::of(alloc, &mut inventory, placed, followed, source)?;
     inventory.objects.seal(&mut transcribed.heap)?;
     Ok(transcribed.into_draft(inventory.into_roots()))
 }
@@ -162,7 +169,8 @@ fn live_heap<R: Intake>(
     inventory: Inventory,
     source: &mut R,
     regions: Regions,
-) -> Result<(Draft, ObjectClasses), ImportError>
+    followed: Followed,
+) -> Result<(Draft, ObjectLabels), ImportError>
     ensures end { OnOk result (IsAtEnd (R.left source.new)) }
     ensures input { result ≡ Err ImportError.Input → IsTrue (R.has_failed source.new) }
 {
@@ -170,13 +178,14 @@ fn live_heap<R: Intake>(
         mut transcribed,
         survivors,
         mut roots,
-    } = Packed::of(alloc, inventory, source)?;
+    } = Packed::of(alloc, inventory, followed, source)?;
     let (words, most) = (survivors.words, regions.most_words());
     if words > most {
         return Err(ImportError::TooManyLiveWords { words, most });
     }
     let mut heap = UnsealedHeap::new(alloc, regions.log, words)?;
     survivors.evacuate(&mut transcribed.heap, &mut heap, roots.as_mut_slice())?;
+    survivors.move_weak(&transcribed.heap, &mut transcribed.weak);
     transcribed.heap = heap;
     Ok(transcribed.into_draft(roots))
 }

@@ -20,6 +20,7 @@ mod totals;
 mod transcription;
 
 pub use dead_words::DeadWords;
+pub use dump_objects::Followed;
 pub use dump_records::{ImportError, Problem};
 pub use figures::ImportFigures;
 pub use heap::draft::Imported;

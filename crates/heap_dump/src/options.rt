@@ -4,6 +4,7 @@ ghost use Rattle.std.specs.Option.{ForSome};
 ghost use Rattle.object_heap.specs.Version.{Allows, IsChosen, has_roots};
 ghost use Rattle.heap_dump.specs.Requested.{requested_log};
 
+use dump_objects::{Followed, Gaps};
 use dump_records::ImportError;
 use heap_image::limits::MIN_REGION_LOG;
 use heap_image::{Fault, Version};
@@ -22,6 +23,10 @@ pub struct Options {
     pub allowance: u64,
     /// Whether only the reachable objects are kept, without gaps.
     pub live_only: bool,
+    /// Which references are followed. The others become null, unless what they lead to is reached without them.
+    pub followed: Followed,
+    /// Whether objects that touch in the machine touch in the image: gaps that may be padding are left out.
+    pub packs: bool,
     /// The version of the image, 2 or 3. None is version 2 where it allows the heap, else version 3.
     pub version: Option<Version>,
 }
@@ -39,6 +44,11 @@ pub(crate) struct Regions {
 }
 
 impl Options {
+    /// Which gaps are kept, unless only reachable objects are.
+    pub(crate) fn gaps(&self) -> Gaps {
+        if self.packs { Gaps::Packed } else { Gaps::Kept }
+    }
+
     /// The requested size of regions, and the version. A region log that the version doesn't allow is an error, and so is
     /// a version without roots.
     pub(crate) fn regions(&self) -> Result<Regions, ImportError>

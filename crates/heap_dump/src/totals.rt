@@ -6,13 +6,16 @@ ghost use Rattle.heap_dump.specs.declared.listing.ListedObject.{ListedObject};
 use crate::listing::ListedObject;
 use std::alloc::{AllocError, Global};
 
-/// How many live and dead objects there are, and their words in the image. What a `u64` cannot hold is [`u64::MAX`].
+/// How many live and dead objects there are, and their words in the image and in the machine. What a `u64` cannot hold is
+/// [`u64::MAX`].
 #[derive(Clone, Copy)]
 pub struct Totals {
     pub live_objects: u64,
     pub live_words: u64,
     pub dead_objects: u64,
     pub dead_words: u64,
+    /// The words of all of them in the machine.
+    pub machine_words: u64,
 }
 
 impl Totals {
@@ -25,6 +28,7 @@ impl Totals {
             live_words: 0,
             dead_objects: 0,
             dead_words: 0,
+            machine_words: 0,
         }
     }
 
@@ -33,17 +37,20 @@ impl Totals {
         ensures { (objects : List ListedObject) → self ≡ sums_of objects
             → result ≡ sums_of (objects ++ object.now ∷ []) }
     {
+        let machine_words = self.machine_words.saturating_add(object.machine_words);
         if object.is_live {
             Totals {
                 live_objects: self.live_objects.saturating_add(1),
                 live_words: self.live_words.saturating_add(object.words),
                 dead_objects: self.dead_objects,
                 dead_words: self.dead_words,
+                machine_words,
             }
         } else {
             Totals {
                 live_objects: self.live_objects,
                 live_words: self.live_words,
+                machine_words,
                 dead_objects: self.dead_objects.saturating_add(1),
                 dead_words: self.dead_words.saturating_add(object.words),
             }

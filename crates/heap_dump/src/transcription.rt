@@ -1,16 +1,16 @@
 //! The second reading of a dump, which copies the values of the objects into their words.
-ghost use Rattle.std.specs.Prelude.{◌<◌, ◌≤◌, OnOk, ◌≡◌, IsTrue, ◌≢◌};
+ghost use Rattle.std.specs.Prelude.{OnOk, ◌≡◌, IsTrue, ◌≢◌};
 ghost use Rattle.std.specs.Io.KnownBytes.{IsAtEnd};
+ghost use Rattle.heap_dump.specs.Listing.{HasLabel};
 
 mod slots;
 pub(crate) mod transcribed;
 
-use crate::listing::texts::Texts;
-use dump_objects::{Inventory, Place, UNKNOWN_ARRAYS, UnsealedHeap, first_word};
-use dump_records::{
-    Contents, Dump, FieldType, ImportError, ObjectKind, ObjectRecord, Problem, Record,
-    RecordVisitor,
+use crate::listing::object_labels::Label;
+use dump_objects::{
+    Followed, Inventory, Place, Texts, UnsealedHeap, ValueVisitor, WeakReference, first_word,
 };
+use dump_records::{Contents, Dump, ImportError, ObjectRecord, Problem, Record, RecordVisitor};
 use heap_image::Intake;
 use slots::Slots;
 use std::alloc::{AllocError, Global};
@@ -19,9 +19,17 @@ use std::alloc::{AllocError, Global};
 #[derive(Drop)]
 pub(crate) struct Transcription<'a> {
     inventory: &'a Inventory,
+    /// Which references are followed.
+    followed: Followed,
     /// The index after the last object in the order of ids, where the next one often is.
     next: usize,
     done: usize,
+    /// The address of the current object.
+    holder: u64,
+    /// Whether its referent is followed, as far as its classes are known.
+    is_followed: bool,
+    /// The address of its referent, if that isn't followed, else 0.
+    weak_slot: u64,
     /// Those of the current object.
     slots: Slots,
     transcript: Transcript,
@@ -31,10 +39,12 @@ pub(crate) struct Transcription<'a> {
 #[derive(Drop)]
 pub(crate) struct Transcript {
     pub(crate) heap: UnsealedHeap,
+    /// The references that aren't followed, whose words are null.
+    pub(crate) weak: Vec<WeakReference>,
     /// How many references lead to objects that are missing from the dump.
     pub(crate) unresolved: u64,
-    /// The class number of each object in the order of ids, if classes are wanted, else empty.
-    pub(crate) classes: Vec<u32>,
+    /// The label of each object in the order of ids, if classes are wanted, else empty.
+    pub(crate) labels: Vec<Label>,
     /// The names of classes, if classes are wanted.
     pub(crate) texts: Texts,
 }
@@ -45,6 +55,7 @@ impl Transcription<'_> {
         alloc: Global,
         inventory: &Inventory,
         heap: UnsealedHeap,
+        followed: Followed,
         source: &mut R,
     ) -> Result<Transcript, ImportError>
         ensures end { OnOk result (IsAtEnd (R.left source.new)) }
@@ -52,8 +63,12 @@ impl Transcription<'_> {
     {
         let mut transcription = Transcription {
             inventory,
+            followed,
             next: 0,
             done: 0,
+            holder: 0,
+            is_followed: true,
+            weak_slot: 0,
             slots: Slots::new(0, 0, 0),
             transcript: Transcript::new(alloc, inventory, heap)?,
         };
@@ -75,23 +90,11 @@ impl Transcription<'_> {
         if done != inventory.objects.len() {
             return Err(dump.problem(Problem::Changed));
         }
-        transcript.unresolved = inventory.objects.resolve_references(&mut transcript.heap);
+        let objects = &inventory.objects;
+        let strong = objects.resolve_references(&mut transcript.heap);
+        let weak = objects.resolve_referents(transcript.weak.as_mut_slice());
+        transcript.unresolved = strong.saturating_add(weak);
         Ok(transcript)
-    }
-
-    /// Keeps a text if it is the name of a class and classes are wanted.
-    fn keep_text<R: Intake>(
-        &mut self,
-        dump: &mut Dump,
-        source: &mut R,
-        id: u64,
-    ) -> Result<(), ImportError>
-        ensures input { result ≡ Err ImportError.Input → IsTrue (R.has_failed source.new) }
-    {
-        match self.inventory.names.index_of_text(id) {
-            Some(index) => self.transcript.texts.read(dump, source, index),
-            None => Ok(()),
-        }
     }
 
     /// Reads and copies an object.
@@ -104,12 +107,9 @@ impl Transcription<'_> {
         ensures input { result ≡ Err ImportError.Input → IsTrue (R.has_failed source.new) }
     {
         let class = self.begin(dump, record)?;
-        let copied = match record.kind {
-            ObjectKind::Class => self.copy_class(dump, source),
-            ObjectKind::Instance { .. } => self.copy_fields(dump, source, class),
-            ObjectKind::Array { contents, .. } => self.copy_elements(dump, source, contents),
-        };
-        copied?;
+        let inventory = self.inventory;
+        let values = inventory.values_of(record.kind, class);
+        values.read(dump, source, self)?;
         self.end(dump)
     }
 
@@ -118,26 +118,29 @@ impl Transcription<'_> {
     fn begin(&mut self, dump: &Dump, record: ObjectRecord) -> Result<u32, ImportError>
         ensures { result ≢ Err ImportError.Input }
     {
-        let Some(place) = self.inventory.objects.find(record.id, self.next) else {
-            return Err(dump.problem(Problem::Changed));
-        };
+        let (place, contents) = self.inventory.locate(dump, record, self.next)?;
         self.next = place.index.saturating_add(1);
-        let contents = match self.inventory.contents_of(record, place.class) {
-            Ok(contents) => contents,
-            Err(problem) => return Err(dump.problem(problem)),
-        };
         if !self.transcript.begin(place.address, contents) {
             return Err(dump.problem(Problem::Changed));
         }
+        self.holder = place.address;
+        self.weak_slot = 0;
+        self.is_followed = self.followed == Followed::All;
         self.slots = Slots::new(place.address, contents.references, contents.words());
-        self.keep_class(place, record.kind);
+        self.note(place, record, contents.words());
         Ok(place.class)
     }
 
-    /// Keeps the class number of the object at a place, if classes are wanted.
-    fn keep_class(&mut self, place: Place, kind: ObjectKind) {
-        if let Some(kept) = self.transcript.classes.get_mut(place.index) {
-            *kept = self.inventory.number_of(kind, place.class);
+    /// Notes the id and the class of the object with this record, if classes are wanted.
+    fn note(&mut self, place: Place, object: ObjectRecord, words: u64)
+        ensures id { HasLabel self.new.transcript.labels.items place.index object.id }
+    {
+        if let Some(label) = self.transcript.labels.get_mut(place.index) {
+            *label = Label {
+                id: object.id,
+                machine_words: self.inventory.machine_words(place.index, words),
+                class: self.inventory.number_of(object.kind, place.class),
+            };
         }
     }
 
@@ -152,146 +155,25 @@ impl Transcription<'_> {
         Ok(())
     }
 
-    /// Puts the id of an object, which is replaced by a reference once all are read.
-    fn put_id(&mut self, dump: &Dump, id: u64) -> Result<(), ImportError>
-        ensures { result ≢ Err ImportError.Input }
-    {
-        if !self.slots.put_reference(&mut self.transcript.heap, id) {
-            return Err(dump.problem(Problem::Changed));
+    /// The id that the next reference gets: null, if it is a referent that isn't followed, which is kept apart.
+    fn strong_id(&mut self, id: u64) -> Result<u64, AllocError> {
+        let slot = self.slots.reference_after(0);
+        if slot != self.weak_slot {
+            return Ok(id);
         }
-        Ok(())
-    }
-
-    /// Reads and puts a value of this type.
-    fn copy_value<R: Intake>(
-        &mut self,
-        dump: &mut Dump,
-        source: &mut R,
-        value: FieldType,
-    ) -> Result<(), ImportError>
-        ensures input { result ≡ Err ImportError.Input → IsTrue (R.has_failed source.new) }
-    {
-        if let FieldType::Reference = value {
-            let id = dump.id(source)?;
-            return self.put_id(dump, id);
+        if id != 0 {
+            self.transcript.weak.push(WeakReference {
+                holder: self.holder,
+                slot,
+                referent: id,
+            })?;
         }
-        let count = usize::from(value.data_bytes());
-        dump.window.need(source, count)?;
-        if !self
-            .slots
-            .put_data(&mut self.transcript.heap, dump.window.front(count))
-        {
-            return Err(dump.problem(Problem::Changed));
-        }
-        dump.window.pass(count);
-        Ok(())
-    }
-
-    /// Reads and puts `count` bytes of data.
-    fn copy_data<R: Intake>(
-        &mut self,
-        dump: &mut Dump,
-        source: &mut R,
-        bytes: u64,
-    ) -> Result<(), ImportError>
-        ensures input { result ≡ Err ImportError.Input → IsTrue (R.has_failed source.new) }
-    {
-        let mut rest = bytes;
-        while rest > 0 {
-            let count = dump.window.piece(source, rest, unit_of(rest))?;
-            if !self
-                .slots
-                .put_data(&mut self.transcript.heap, dump.window.front(count))
-            {
-                return Err(dump.problem(Problem::Changed));
-            }
-            dump.window.pass(count);
-            rest -= count as u64;
-        }
-        Ok(())
-    }
-
-    /// Reads and puts the references of the current class and its static fields, and skips the rest of it.
-    fn copy_class<R: Intake>(&mut self, dump: &mut Dump, source: &mut R) -> Result<(), ImportError>
-        ensures input { result ≡ Err ImportError.Input → IsTrue (R.has_failed source.new) }
-    {
-        for id in dump.class_head(source)? {
-            self.put_id(dump, id)?;
-        }
-        self.copy_statics(dump, source)?;
-        dump.skip_fields(source)
-    }
-
-    /// Reads and puts the static fields of a class.
-    fn copy_statics<R: Intake>(
-        &mut self,
-        dump: &mut Dump,
-        source: &mut R,
-    ) -> Result<(), ImportError>
-        ensures input { result ≡ Err ImportError.Input → IsTrue (R.has_failed source.new) }
-    {
-        let count = dump.window.number(source, 2)?;
-        for _ in 0..count {
-            let field = dump.field(source)?;
-            self.copy_value(dump, source, field)?;
-        }
-        Ok(())
-    }
-
-    /// Reads and puts the instance fields of the class with this number, then those of its superclasses.
-    fn copy_fields<R: Intake>(
-        &mut self,
-        dump: &mut Dump,
-        source: &mut R,
-        class: u32,
-    ) -> Result<(), ImportError>
-        ensures input { result ≡ Err ImportError.Input → IsTrue (R.has_failed source.new) }
-    {
-        let classes = &self.inventory.classes;
-        let mut class = class;
-        for _ in 0..=classes.len() {
-            if class == 0 {
-                break;
-            }
-            self.copy_values(dump, source, classes.fields(class))?;
-            class = classes.next(class);
-        }
-        Ok(())
-    }
-
-    /// Reads and puts values of these types.
-    fn copy_values<R: Intake>(
-        &mut self,
-        dump: &mut Dump,
-        source: &mut R,
-        types: &[FieldType],
-    ) -> Result<(), ImportError>
-        ensures input { result ≡ Err ImportError.Input → IsTrue (R.has_failed source.new) }
-    {
-        for value in types {
-            self.copy_value(dump, source, *value)?;
-        }
-        Ok(())
-    }
-
-    /// Reads and puts the elements of an array.
-    fn copy_elements<R: Intake>(
-        &mut self,
-        dump: &mut Dump,
-        source: &mut R,
-        contents: Contents,
-    ) -> Result<(), ImportError>
-        ensures input { result ≡ Err ImportError.Input → IsTrue (R.has_failed source.new) }
-    {
-        for _ in 0..contents.references {
-            self.copy_value(dump, source, FieldType::Reference)?;
-        }
-        self.copy_data(dump, source, contents.data_bytes)
+        Ok(0)
     }
 }
 
 impl Transcript {
-    /// A heap without values, with room for the class number of each object, if classes are wanted.
+    /// A heap without values, with room for the label of each object, if classes are wanted.
     fn new(
         alloc: Global,
         inventory: &Inventory,
@@ -305,8 +187,9 @@ impl Transcript {
         };
         Ok(Transcript {
             heap,
+            weak: Vec::new(alloc),
             unresolved: 0,
-            classes: vec![in alloc; UNKNOWN_ARRAYS; objects]?,
+            labels: vec![in alloc; Label::NONE; objects]?,
             texts: Texts::new(alloc, names)?,
         })
     }
@@ -324,6 +207,38 @@ impl Transcript {
     }
 }
 
+impl ValueVisitor for Transcription<'_> {
+    fn enter_class(&mut self, class: u32) {
+        let known = &self.inventory.known;
+        self.is_followed = self.is_followed
+            || self.followed == Followed::StrongAndSoft && known.is_soft(class);
+        self.weak_slot = match known.before_referent(class) {
+            Some(before) if !self.is_followed => self.slots.reference_after(before),
+            _ => 0,
+        };
+    }
+
+    /// Puts the id of an object, which is replaced by a reference once all are read.
+    fn take_reference(&mut self, dump: &Dump, id: u64) -> Result<(), ImportError>
+        ensures no_device { result ≢ Err ImportError.Input }
+    {
+        let strong = self.strong_id(id)?;
+        if !self.slots.put_reference(&mut self.transcript.heap, strong) {
+            return Err(dump.problem(Problem::Changed));
+        }
+        Ok(())
+    }
+
+    fn take_data(&mut self, dump: &Dump, bytes: &[u8]) -> Result<(), ImportError>
+        ensures no_device { result ≢ Err ImportError.Input }
+    {
+        if !self.slots.put_data(&mut self.transcript.heap, bytes) {
+            return Err(dump.problem(Problem::Changed));
+        }
+        Ok(())
+    }
+}
+
 impl RecordVisitor for Transcription<'_> {
     fn visit<R: Intake>(
         &mut self,
@@ -333,18 +248,11 @@ impl RecordVisitor for Transcription<'_> {
     ) -> Result<(), ImportError> {
         match record {
             Record::Object(object) => self.copy_object(dump, source, object),
-            Record::Text { id } => self.keep_text(dump, source, id),
+            Record::Text { id } => {
+                let names = &self.inventory.names;
+                self.transcript.texts.read(names, dump, source, id)
+            }
             _ => Ok(()),
         }
     }
-}
-
-/// The unit in which `rest` bytes are copied: whole words while there are any, then bytes.
-fn unit_of(rest: u64) -> usize
-    requires { 0 < rest }
-    ensures some { 1 ≤ result }
-    ensures small { result ≤ 8 }
-    ensures within { result ≤ rest }
-{
-    if rest >= 8 { 8 } else { 1 }
 }

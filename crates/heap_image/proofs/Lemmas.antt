@@ -30,3 +30,4 @@ pub mod Unchecked
 pub mod FrontFaults
 pub mod InOrder
 pub mod Upgrades
+pub mod FoundImages

@@ -8,3 +8,4 @@ pub mod Checks
 pub mod Decoding
 pub mod Unchecked
 pub mod Upgrade
+pub mod SharedCheck

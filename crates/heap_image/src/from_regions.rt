@@ -110,7 +110,7 @@ impl UncheckedParts {
     }
 
     /// These regions, refused for this fault.
-    fn refused(self, fault: Fault) -> RefusedRegions
+    pub(crate) fn refused(self, fault: Fault) -> RefusedRegions
         ensures regions { result.regions.items ≡ self.regions.items }
         ensures fault { result.fault ≡ fault }
     {
@@ -121,7 +121,7 @@ impl UncheckedParts {
     }
 
     /// Checks the sizes by the front that the image would have, whose faults are 3 and 4.
-    fn check_sizes(&self) -> Result<(), Fault>
+    pub(crate) fn check_sizes(&self) -> Result<(), Fault>
         ensures fits { OnOk result (HasFittingNumbers self.now.version (numbers_in self.now)) }
         ensures fault { IfErr result (IsMemoryOr (first_some (front_faults (front_in self.now)))) }
     {

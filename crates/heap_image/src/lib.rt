@@ -23,14 +23,17 @@
 #![tactic(auto)]
 
 mod check;
+mod check_share;
 mod from_regions;
 mod image;
 mod io;
 mod laws;
 mod marking;
 mod processors;
+mod shared_check;
 mod upgrading;
 
+pub use check_share::CheckShare;
 pub use from_regions::{RefusedRegions, UncheckedParts, image_of_regions};
 pub use heap_marking::{Marker, PIECE};
 pub use image::{Image, ImageParts};
@@ -55,5 +58,6 @@ pub use object_heap::{
     roots_are_null_or_live,
 };
 pub use processors::all_processors;
+pub use shared_check::{SharedCheck, begin_check};
 pub use thread_row::{Alone, Many};
 pub use upgrading::{upgrade, upgrade_to};

@@ -1,2 +1,4 @@
 pub mod GenerationFigures
+pub mod HeapSize
+pub mod Shrinking
 pub mod Wanted

@@ -1,3 +1,4 @@
+pub mod Bands
 pub mod Cells
 pub mod MapFigures
 pub mod Text

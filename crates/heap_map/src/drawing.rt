@@ -1,6 +1,8 @@
 //! Draws a picture as SVG: rows of cells with their addresses, marks at the prefix end and the new top, and a legend.
 ghost use Rattle.std.specs.Prelude.{◌≤◌, ◌<◌, ◌^◌, length};
 
+mod moves;
+
 use crate::area::Area;
 use crate::areas::occurs;
 use crate::cell::Cell;
@@ -14,6 +16,7 @@ use crate::picture::Picture;
 use crate::shade::Shade;
 use crate::style::Shape;
 use crate::tenths::{Tenths, WORDS_IN_A_MIB, digits, label_digits, write_label};
+use moves::{BANDS, draw_moves};
 use std::alloc::{AllocError, Global};
 
 /// The width of the drawing. Its text is legible in a page that is 375 points wide.
@@ -97,7 +100,8 @@ pub(crate) fn draw(
     let cells = shape.width.min(picture.before.cells.len() as u32);
     let frame = Frame::of(picture.figures, cells);
     let strip = strip_height(&picture.before, frame);
-    let after_at = TOP.saturating_add(strip);
+    let between = if picture.moves.is_some() { BANDS } else { 0 };
+    let after_at = TOP.saturating_add(strip).saturating_add(between);
     let legend = match &picture.after {
         Some(_) => after_at.saturating_add(strip),
         None => after_at,
@@ -112,7 +116,13 @@ pub(crate) fn draw(
         frame,
     )?;
     if let Some(after) = &picture.after {
-        draw_strip(&mut svg, "after it", after_at, after, frame)?;
+        match &picture.moves {
+            Some(moves) => {
+                draw_moves(&mut svg, moves, frame, TOP, after_at)?;
+                draw_strip_below_moves(&mut svg, "after it", after_at, after, frame)?;
+            }
+            None => draw_strip(&mut svg, "after it", after_at, after, frame)?,
+        }
     }
     draw_legend(&mut svg, picture, legend)?;
     svg.push_str("</svg>\n")?;
@@ -214,6 +224,24 @@ fn draw_strip(
         r#"<text x="{}" y="{base}">{name}</text>
 <text x="8" y="{base}">word</text>"#,
         frame.left
+    )?;
+    draw_rows(svg, y.saturating_add(28), map, frame)
+}
+
+/// Writes a strip at height `y`, with its name where moves mostly leave room: above its end.
+fn draw_strip_below_moves(
+    svg: &mut String,
+    name: &str,
+    y: u64,
+    map: &Map,
+    frame: Frame,
+) -> Result<(), AllocError> {
+    let base = y.saturating_add(16);
+    writeln!(
+        svg,
+        r#"<text x="{}" y="{base}" text-anchor="end">{name}</text>
+<text x="8" y="{base}">word</text>"#,
+        frame.left.saturating_add(frame.row_width)
     )?;
     draw_rows(svg, y.saturating_add(28), map, frame)
 }

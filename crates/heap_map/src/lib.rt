@@ -15,6 +15,8 @@
 
 mod area;
 mod areas;
+mod band;
+mod bands;
 mod cell;
 mod drawing;
 mod figures;
@@ -29,6 +31,8 @@ mod style;
 mod tenths;
 
 pub use area::Area;
+pub use band::Band;
+pub use bands::{Bands, MAX_BANDS};
 pub use cell::Cell;
 pub use figures::MapFigures;
 pub use map::{MAX_CELLS, Map};

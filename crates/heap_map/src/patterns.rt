@@ -99,6 +99,8 @@ text { fill: #111 }
 .ondark { stroke: #fff }
 .onlight, .ondark { stroke-width: .7; stroke-opacity: .6 }
 .mark { fill: #c00000; stroke: #c00000; stroke-width: 1.4; stroke-linejoin: round }
+.band { fill: #00693a; fill-opacity: .2; stroke: #00693a; stroke-width: .7 }
+.odd { fill-opacity: .45 }
 @media (prefers-color-scheme: dark) {
 .page, .frame { fill: #16181c }
 .frame { stroke: #aaa }
@@ -111,6 +113,7 @@ text { fill: #eee }
 .onlight { stroke: #eee }
 .ondark { stroke: #111 }
 .mark { fill: #ff8a7a; stroke: #ff8a7a }
+.band { fill: #6fdc9f; stroke: #6fdc9f }
 }
 </style>
 "##;

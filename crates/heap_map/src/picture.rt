@@ -1,9 +1,11 @@
 ghost use Rattle.std.specs.Prelude.{◌≡◌, ◌≤◌, ◌++◌, IfOk, OnOk, None, Some, option_map, string_bytes};
 ghost use Rattle.heap_map.specs.Cells.{cells_after, cells_before};
 ghost use Rattle.heap_map.specs.MapFigures.{AreFiguresOf};
+ghost use Rattle.heap_map.specs.Bands.{bands_of, moves_text};
 ghost use Rattle.heap_map.specs.Text.{after_text, picture_text};
 
 use crate::areas::write_legend;
+use crate::bands::{Bands, MAX_BANDS};
 use crate::drawing::draw;
 use crate::figures::MapFigures;
 use crate::map::Map;
@@ -21,6 +23,8 @@ pub struct Picture {
     pub before: Map,
     /// The heap as its collection will leave it, if requested.
     pub after: Option<Map>,
+    /// Where the live words go, if requested.
+    pub moves: Option<Bands>,
 }
 
 impl Picture {
@@ -37,11 +41,13 @@ impl Picture {
         ensures figures { IfOk result (λ picture. AreFiguresOf image.now picture.figures) }
         ensures before { IfOk result (λ picture. picture.before.cells.items ≡ cells_before image.now cells) }
         ensures after { IfOk result (λ picture. option_map (λ map. map.cells.items) picture.after ≡ None) }
+        ensures moves { IfOk result (λ picture. option_map (λ moves. moves.bands.items) picture.moves ≡ None) }
     {
         Ok(Picture {
             figures: MapFigures::of(survey),
             before: Map::before(alloc, image, survey, cells)?,
             after: None,
+            moves: None,
         })
     }
 
@@ -58,18 +64,49 @@ impl Picture {
         ensures figures { IfOk result (λ picture. AreFiguresOf image.now picture.figures) }
         ensures before { IfOk result (λ picture. picture.before.cells.items ≡ cells_before image.now cells) }
         ensures after { IfOk result (λ picture. option_map (λ map. map.cells.items) picture.after ≡ Some (cells_after image.now cells)) }
+        ensures moves { IfOk result (λ picture. option_map (λ moves. moves.bands.items) picture.moves ≡ None) }
     {
         Ok(Picture {
             figures: MapFigures::of(survey),
             before: Map::before(alloc, image, survey, cells)?,
             after: Some(Map::after(alloc, image, survey, cells)?),
+            moves: None,
         })
     }
 
-    /// The picture as text: the figures, the rows of each map, and the legend. It ends with a line feed.
+    /// The same picture with the moves of its live words.
+    pub fn with_moves(
+        self,
+        alloc: Global,
+        image: &Image,
+        survey: &Survey,
+    ) -> Result<Picture, AllocError>
+        requires { survey.now ≡ image.now }
+        ensures figures { IfOk result (λ picture. picture.figures ≡ self.figures) }
+        ensures before { IfOk result (λ picture. picture.before ≡ self.before) }
+        ensures after { IfOk result (λ picture. picture.after ≡ self.after) }
+        ensures moves { IfOk result (λ picture. option_map (λ moves. moves.bands.items) picture.moves ≡ Some (bands_of image.now 64)) }
+    {
+        let bands = Bands::of(alloc, image, survey, MAX_BANDS)?;
+        let Picture {
+            figures,
+            before,
+            after,
+            moves: _,
+        } = self;
+        Ok(Picture {
+            figures,
+            before,
+            after,
+            moves: Some(bands),
+        })
+    }
+
+    /// The picture as text: the figures, the rows of each map, the legend, and the moves. It ends with a line feed.
     pub fn text(&self, alloc: Global, style: Style, shape: Shape) -> Result<String, AllocError>
         ensures { IfOk result (λ text. string_bytes text
-            ≡ picture_text style shape self.now.figures self.now.before.cells.items (option_map (λ map. map.cells.items) self.now.after)) }
+            ≡ picture_text style shape self.now.figures self.now.before.cells.items (option_map (λ map. map.cells.items) self.now.after)
+            ++ moves_text (option_map (λ moves. moves.bands.items) self.now.moves)) }
     {
         let mut text = String::new(alloc);
         writeln!(text, "{}", self.figures)?;
@@ -82,7 +119,19 @@ impl Picture {
         )?;
         self.write_after(&mut text, style, shape)?;
         write_legend(&mut text, style.glyphs, self)?;
+        self.write_moves(&mut text)?;
         Ok(text)
+    }
+
+    /// Writes the moves, if they are known.
+    fn write_moves(&self, text: &mut String) -> Result<(), AllocError>
+        ensures { OnOk result (string_bytes text.new ≡ string_bytes text.old
+            ++ moves_text (option_map (λ moves. moves.bands.items) self.now.moves)) }
+    {
+        match &self.moves {
+            Some(moves) => moves.write(text),
+            None => Ok(()),
+        }
     }
 
     /// Writes the strip of the heap after its collection, if there is one.

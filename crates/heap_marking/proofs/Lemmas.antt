@@ -15,3 +15,4 @@ pub mod References
 pub mod SoundObjects
 pub mod SoundReferences
 pub mod MovedUp
+pub mod Pieces

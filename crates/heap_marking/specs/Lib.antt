@@ -4,3 +4,4 @@ pub mod Spread
 pub mod Rounds
 pub mod LiveList
 pub mod Soundness
+pub mod NotedPieces

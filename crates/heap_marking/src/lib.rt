@@ -14,10 +14,13 @@ mod laws;
 mod live_list;
 mod marker;
 mod marking;
+mod noted_pieces;
 mod references;
 mod soundness;
 
 pub use laws::marks_are_listed;
 pub use marker::Marker;
 pub use marking::Marked;
+pub use noted_pieces::NotedPieces;
+pub use references::mark_references;
 pub use soundness::{PIECE, is_null_or_live, sizes_if_sound};

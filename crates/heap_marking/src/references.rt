@@ -11,10 +11,7 @@ use std::alloc::{AllocError, Global};
 
 /// The set of the references that are null or lead to a live object, or `None` for objects that are known to be
 /// well-formed. `begins` marks the live addresses.
-pub(crate) fn mark_references(
-    alloc: Global,
-    begins: Option<&Bits>,
-) -> Result<Option<Bits>, AllocError>
+pub fn mark_references(alloc: Global, begins: Option<&Bits>) -> Result<Option<Bits>, AllocError>
     ensures { (image : HeapImage) → All (λ a. a < heap_words image) image.live → AreBeginsOrWellFormed image begins.entry
         → IfOk result (AreReferencesOrWellFormed image) }
 {

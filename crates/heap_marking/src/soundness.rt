@@ -66,7 +66,7 @@ pub(crate) fn note_sizes(
 }
 
 /// Whether the sizes of all objects are noted.
-fn are_all_noted(sizes: &[[u32; PIECE]], objects: usize) -> bool
+pub(crate) fn are_all_noted(sizes: &[[u32; PIECE]], objects: usize) -> bool
     requires { objects ≤ 64 * length sizes.now }
     ensures { IsTrue result → (i : ℕ) → i < objects → 0 < slice_index (slice_index_or sizes.now (i / 64) []) (i % 64) }
 {

@@ -29,6 +29,7 @@ fn check_queries(rt: &impl Abort, bits: &Bits)
     equal(rt, bits.word(0), 8);
     equal(rt, bits.next(4), Some(64));
     equal(rt, bits.next(131), None);
+    equal(rt, bits.last_below(64), Some(3));
     equal(rt, bits.next_before(4, 64), None);
     equal(rt, bits.next_absent_before(64, 70), Some(65));
     equal(rt, bits.count(3, 131), 3);

@@ -96,6 +96,12 @@ fn check_answers(rt: &impl Abort, marks: &Marks)
     equal(rt, counts, [19, 3, 0]);
     let begins = [marks.next_begin(13), marks.next_begin(21)];
     equal(rt, begins, [Some(20), None]);
+    let over = [
+        marks.object_over(20),
+        marks.object_over(29),
+        marks.object_over(31),
+    ];
+    equal(rt, over, [Some(20), Some(20), None]);
     let live = [marks.next_live(3), marks.next_live(30)];
     equal(rt, live, [Some(5), None]);
     holds(rt, marks.is_begin(20));

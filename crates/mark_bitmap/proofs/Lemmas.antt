@@ -2,6 +2,7 @@ pub mod Tests
 pub mod Apart
 pub mod Runs
 pub mod Ends
+pub mod Over
 pub mod PartBits
 pub mod Opaque
 pub mod OpaqueValid

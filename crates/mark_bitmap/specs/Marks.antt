@@ -1,5 +1,5 @@
 -- The marks of an image.
-use Rattle.std.specs.Prelude.{◌≡◌, ℕ, ◌+◌, ◌*◌, ◌/◌, ◌<◌, ◌≤◌, ◌==◌, ◌&&◌, nat_lt, Bool, List, All, length, slice_index}
+use Rattle.std.specs.Prelude.{◌≡◌, ℕ, ◌+◌, ◌*◌, ◌/◌, ◌<◌, ◌≤◌, ◌==◌, ◌&&◌, nat_lt, Bool, IsTrue, List, All, length, slice_index}
 use Rattle.std.specs.List.{list_any}
 use Rattle.object_heap.specs.HeapImage.{HeapImage, IsValid, heap_words, end_of, is_word_of, is_live_word}
 use Rattle.object_heap.specs.Bits.{has, room}
@@ -37,6 +37,11 @@ module _ (image : HeapImage) where
   pub record AreMarks (begins live : List ℕ) : Type 0 where
     pub valid : IsValid image
     pub bits : HaveMarks image.live begins live
+
+  -- the live object that begins at b has the word at a
+  pub record IsObjectOver (a b : ℕ) : Type 0 where
+    pub begins : IsTrue (is_begin b)
+    pub has_word : IsTrue (is_word_of image b a)
 
   -- the words at k - 1 and at k belong to the same object
   abbrev pub continues_at : ℕ → Bool

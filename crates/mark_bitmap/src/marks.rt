@@ -1,9 +1,9 @@
 //! The mark bitmaps of an image, and the queries on them.
-ghost use Rattle.std.specs.Prelude.{◌≡◌, ◌+◌, ◌-◌, ◌<◌, ◌≤◌, IsTrue, IfOk, MatchOption, length};
+ghost use Rattle.std.specs.Prelude.{◌≡◌, ◌+◌, ◌-◌, ◌<◌, ◌≤◌, IsTrue, IfOk, MatchOption, false, length};
 ghost use Rattle.std.specs.Arc.{arc_value};
 ghost use Rattle.object_heap.specs.HeapImage.{IsValid, heap_words, is_live_word, is_dead_word, live_words, size_at};
 ghost use Rattle.object_heap.specs.Bits.{NoneFrom, IsFirstFrom, NoneBetween, IsFirstBetween};
-ghost use Rattle.mark_bitmap.specs.Marks.{AreBegins, AreBitsFrom, AreLiveBits, bit_words, continues_at, is_begin, is_end};
+ghost use Rattle.mark_bitmap.specs.Marks.{AreBegins, AreBitsFrom, AreLiveBits, bit_words, continues_at, is_begin, is_end, IsObjectOver};
 
 use crate::laws::{listed_image_is_valid, marked_image_is_valid};
 use crate::listed::Listed;
@@ -159,6 +159,17 @@ impl Marks {
         ensures { MatchOption result (NoneFrom (is_begin self.now) from) (IsFirstFrom (is_begin self.now) from) }
     {
         self.begins.next(from)
+    }
+
+    /// The address of the live object that has the word at `a`, its first or not.
+    pub fn object_over(&self, a: u64) -> Option<u64>
+        ensures { MatchOption result (is_live_word self.now a ≡ false) (IsObjectOver self.now a) }
+    {
+        if !self.live.contains(a) {
+            return None;
+        }
+        marked_image_is_valid(self);
+        self.begins.last_below(a + 1)
     }
 
     /// The first address from `from` on whose word belongs to a live object.

@@ -1,5 +1,5 @@
 //! Opaque objects, of which only the addresses and sizes are known.
-ghost use Rattle.std.specs.Prelude.{◌≡◌, ◌<◌, ◌≤◌, ◌^◌, IfOk, IfErr, IfSome, IfNone, length};
+ghost use Rattle.std.specs.Prelude.{◌≡◌, ◌+◌, ◌<◌, ◌≤◌, ◌^◌, ◌&&◌, nat_lt, nat_le, IfOk, IfErr, IfSome, IfNone, length};
 ghost use Rattle.std.specs.Int.{div_ceil};
 ghost use Rattle.object_heap.specs.HeapImage.{IsValid, region_count};
 ghost use Rattle.object_heap.specs.Sizes.{AreSizesOf};
@@ -149,13 +149,24 @@ fn first_object_fault(words: u64, live: &[u64], sizes: &[u32]) -> Option<Fault>
     ensures some { IfSome result (IsFirstObjectFault words live.now sizes.now) }
     ensures none { IfNone result (AreApart words live.now sizes.now) }
 {
+    let mut end = 0;
     for i in 0..live.len() {
-        let fault = object_fault(words, live, sizes, i);
-        if fault.is_some() {
-            return fault;
+        let at = live[i];
+        let size = u64::from(sizes[i]);
+        if !follows(words, end, at, size) {
+            return object_fault(words, live, sizes, i);
         }
+        end = at + size;
     }
     None
+}
+
+/// Whether an object of this size at `at` lies behind the one that ends at `end`, and ends within the words.
+#[inline]
+fn follows(words: u64, end: u64, at: u64, size: u64) -> bool
+    ensures { result ≡ (nat_lt at words && (nat_le end at && (nat_lt 0 size && nat_le (at + size) words))) }
+{
+    at < words && end <= at && size > 0 && size <= words - at
 }
 
 /// What is wrong with the `i`-th object, if anything is.

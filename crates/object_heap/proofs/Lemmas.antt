@@ -4,6 +4,7 @@ pub mod Masks
 pub mod Words
 pub mod Counts
 pub mod Firsts
+pub mod Lasts
 pub mod Absent
 pub mod BlockWords
 pub mod RegionLogs

@@ -30,11 +30,33 @@ pub record IsFirstBetween (test : ℕ → Bool) (from to a : ℕ) : Type 0 where
   pub first : IsFirstFrom test from a
   pub below : a < to
 
+-- no address below the limit passes the test
+abbrev pub NoneBelow : (ℕ → Bool) → ℕ → Type 0
+NoneBelow test limit = (k : ℕ) → k < limit → test k ≡ false
+
+-- a is the last address below the limit that passes the test
+pub record IsLastBelow (test : ℕ → Bool) (limit a : ℕ) : Type 0 where
+  pub below : a < limit
+  pub passes : IsTrue (test a)
+  pub greatest : (k : ℕ) → a < k → k < limit → test k ≡ false
+
+-- the word with index i is the last of these that isn't 0
+pub record IsLastWord (words : List ℕ) (i : ℕ) : Type 0 where
+  pub inside : i < length words
+  pub some : 0 < slice_index words i
+  pub greatest : (j : ℕ) → i < j → j < length words → slice_index words j ≡ 0
+
 -- the lowest bit that is set in a word
 pub record IsLowestBit (word i : ℕ) : Type 0 where
   pub below : i < 64
   pub set : bit_at word i ≡ 1
   pub least : (j : ℕ) → j < i → bit_at word j ≡ 0
+
+-- the highest bit that is set in a word
+pub record IsHighestBit (word i : ℕ) : Type 0 where
+  pub below : i < 64
+  pub set : bit_at word i ≡ 1
+  pub greatest : (j : ℕ) → i < j → bit_at word j ≡ 0
 
 -- the set bits are those of the addresses of the list, which are below words
 pub record MarkBegins (live : List ℕ) (words : ℕ) (bits : List ℕ) : Type 0 where

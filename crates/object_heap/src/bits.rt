@@ -2,7 +2,7 @@
 ghost use Rattle.std.specs.Prelude.{◌≡◌, ℕ, ◌+◌, ◌-◌, ◌*◌, ◌/◌, ◌%◌, ◌^◌, ◌<◌, ◌≤◌, ◌==◌, ◌||◌, ◌&&◌, nat_le, nat_lt, ◌++◌, length, replicate, take, drop, All, slice_index, slice_set, count_by, count_ones, position, not, IfOk, IsTrue, MatchOption};
 ghost use Rattle.std.specs.Int.{bit_at};
 ghost use Rattle.std.specs.List.{range_with_len, list_any};
-ghost use Rattle.object_heap.specs.Bits.{has, room, IsLowestBit, NoneFrom, IsFirstFrom, NoneBetween, IsFirstBetween};
+ghost use Rattle.object_heap.specs.Bits.{has, room, IsLowestBit, NoneFrom, IsFirstFrom, NoneBetween, IsFirstBetween, IsHighestBit, NoneBelow, IsLastBelow, IsLastWord};
 
 use std::alloc::{AllocError, Global};
 use std::marker::Model;
@@ -145,6 +145,14 @@ impl Bits {
         if first < to { Some(first) } else { None }
     }
 
+    /// The greatest address of the set that is below `limit`. Words after `limit` are not read.
+    pub fn last_below(&self, limit: u64) -> Option<u64>
+        requires { limit < room self.now }
+        ensures { MatchOption result (NoneBelow (has self.now) limit) (IsLastBelow (has self.now) limit) }
+    {
+        last_in(self.words.as_slice(), limit)
+    }
+
     /// All words.
     #[inline]
     pub fn words(&self) -> &[u64]
@@ -221,6 +229,35 @@ fn first_not_in(words: &[u64], from: u64) -> u64
     }
 }
 
+/// The greatest address below `limit` that is in the set of these words.
+fn last_in(words: &[u64], limit: u64) -> Option<u64>
+    requires { limit < room words.now }
+    ensures { MatchOption result (NoneBelow (has words.now) limit) (IsLastBelow (has words.now) limit) }
+{
+    let start = (limit / 64) as usize;
+    let rest = words[start] & ((1 << (limit % 64)) - 1);
+    if rest != 0 {
+        return Some(64 * start as u64 + highest(rest));
+    }
+    let before = &words[..start];
+    let i = last_nonzero(before)?;
+    Some(64 * i as u64 + highest(before[i]))
+}
+
+/// The index of the last word with a bit that is set.
+fn last_nonzero(words: &[u64]) -> Option<usize>
+    ensures { MatchOption result (All (λ word. word ≡ 0) words.now) (IsLastWord words.now) }
+{
+    let mut end = words.len();
+    while end > 0 {
+        end -= 1;
+        if words[end] != 0 {
+            return Some(end);
+        }
+    }
+    None
+}
+
 fn first_nonzero(words: &[u64]) -> Option<usize>
     ensures { result ≡ position (λ word. not (word == 0)) words.now }
 {
@@ -250,6 +287,15 @@ fn lowest(word: u64) -> u64
     ensures { IsLowestBit word result }
 {
     u64::from(word.trailing_zeros())
+}
+
+/// The index of the highest bit that is set in a word.
+#[inline]
+fn highest(word: u64) -> u64
+    requires { 0 < word }
+    ensures { IsHighestBit word result }
+{
+    u64::from(word.ilog2())
 }
 
 /// The number of bits that are set in these words.

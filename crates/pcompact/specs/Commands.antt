@@ -11,6 +11,7 @@ use Rattle.heap_commands.specs.Generate.{generate_command}
 use Rattle.heap_commands.specs.Import.{import_command}
 use Rattle.heap_commands.specs.Map.{map_command}
 use Rattle.heap_commands.specs.Order.{order_command}
+use Rattle.heap_commands.specs.Reduce.{reduce_command}
 use Rattle.heap_commands.specs.Replay.{replay_command}
 use Rattle.heap_commands.specs.Summarize.{summary_command}
 use Rattle.heap_commands.specs.Text.{text_command}
@@ -34,6 +35,7 @@ all_commands =
     ∷ import_command
     ∷ compare_command
     ∷ generate_command
+    ∷ reduce_command
     ∷ board_command
     ∷ []
 

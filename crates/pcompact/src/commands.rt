@@ -12,8 +12,8 @@ use command_files::{SystemFile, WorkDone};
 use command_line::Request;
 use command_support::{Screen, Trouble};
 use heap_commands::{
-    assemble, board, compare, generate, import, map, order, replay, summarize, text, timeline,
-    upgrade,
+    assemble, board, compare, generate, import, map, order, reduce, replay, summarize, text,
+    timeline, upgrade,
 };
 use std::os::unix::fs::FileExt;
 use std::rt::Files;
@@ -52,6 +52,7 @@ where
         Request::Import(request) => import::answer(rt, request),
         Request::Compare(request) => compare::answer(rt, request),
         Request::Generate(request) => generate::answer(rt, request),
+        Request::Reduce(request) => reduce::answer(rt, request),
         Request::Order(request) => order::answer(rt, request),
         Request::Text(request) => text::answer(rt, request),
         Request::Assemble(request) => assemble::answer(rt, request),

@@ -8,6 +8,7 @@ ghost use Rattle.heap_commands.specs.Generate.{IsGenerationLine};
 ghost use Rattle.heap_commands.specs.Import.{IsImported};
 ghost use Rattle.heap_commands.specs.Map.{IsMap};
 ghost use Rattle.heap_commands.specs.Order.{IsOrder};
+ghost use Rattle.heap_commands.specs.Reduce.{IsReductionLine};
 ghost use Rattle.heap_commands.specs.Replay.{IsReplayText};
 ghost use Rattle.heap_commands.specs.Summarize.{IsSummary};
 ghost use Rattle.heap_commands.specs.Text.{AreLines};
@@ -65,6 +66,11 @@ pub fn compare_prints_a_report()
 /// `generate` prints the figures of some valid image.
 pub fn generate_prints_figures()
     ensures prints { (text : List ℕ) → IsPrintedBy (codes "generate") text → IsGenerationLine text }
+{}
+
+/// `reduce` prints the counts of some valid image.
+pub fn reduce_prints_counts()
+    ensures prints { (text : List ℕ) → IsPrintedBy (codes "reduce") text → IsReductionLine text }
 {}
 
 /// `order` prints the longest chain of some valid image, and what follows from it.

@@ -14,6 +14,7 @@ pub fn named_files<'a>(request: &Request<'a>) -> NamedFiles<'a> {
         }
         Request::Collect(call) => image_and_out(call.image, call.out),
         Request::Upgrade(call) => image_and_out(call.image, call.out),
+        Request::Reduce(call) => image_and_out(call.image, call.out),
         Request::Verify(call) => before_and_after(call.before, call.after),
         Request::Compare(call) => before_and_after(call.before, call.after),
         Request::Replay(call) => image_and_schedule(call.image, call.schedule),

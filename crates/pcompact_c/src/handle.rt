@@ -48,8 +48,9 @@ unsafe impl Send for PcompactHandle {}
 
 impl PcompactHandle {
     ghost use Rattle.image_streams.specs.declared.fault.Fault.TheVariants.{Length, Workers};
-    ghost use Rattle.object_heap.specs.HeapImage.{HeapImage, heap_words};
+    ghost use Rattle.object_heap.specs.HeapImage.{HeapImage, heap_words, is_live_word};
     ghost use Rattle.object_heap.specs.Reachable.{is_listed};
+    ghost use Rattle.mark_bitmap.specs.Marks.{IsObjectOver};
     ghost use Rattle.coded_marking.specs.Marking.{Marks};
     ghost use Rattle.coded_redirection.specs.References.{redirected_words};
     ghost use Rattle.collector.specs.Slides.{IsNextObject};
@@ -219,6 +220,18 @@ impl PcompactHandle {
         let next = part.next_object(from);
         self.enter(part);
         next
+    }
+
+    /// The address of the object of the planned slide that has the word at this address. `None` also if nothing is planned.
+    pub(crate) fn object_over(&mut self, alloc: Global, address: u64) -> Option<u64>
+        ensures part { self.new.2 ≡ self.old.2 }
+        ensures object { (image : HeapImage) → plan_in self.old ≡ Some image → MatchOption result (is_live_word image address ≡ false) (IsObjectOver image address) }
+        ensures none { plan_in self.old ≡ None → result ≡ None }
+    {
+        let part = self.leave(alloc)?;
+        let object = part.object_over(address);
+        self.enter(part);
+        object
     }
 
     /// Redirects slots to where the collection takes what they lead to. Returns whether the handle is held.

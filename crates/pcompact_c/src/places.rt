@@ -3,7 +3,7 @@ ghost use Rattle.std.specs.Prelude.{◌≡◌, ◌↔◌, ◌⊎◌, Some, None,
 ghost use Rattle.object_heap.specs.HeapImage.{HeapImage};
 ghost use Rattle.caller_heap.specs.Slots.{redirected_slot};
 ghost use Rattle.pcompact_c.specs.Handles.{image_in};
-ghost use Rattle.pcompact_c.specs.Places.{IsNextAddress, new_address_in};
+ghost use Rattle.pcompact_c.specs.Places.{IsNextAddress, IsObjectAddress, new_address_in};
 ghost use Rattle.pcompact_c.specs.Slides.{plan_in};
 
 use crate::handle::PcompactHandle;
@@ -46,6 +46,24 @@ pub extern "C" fn pcompact_next_object(alloc: Global, handle: &mut PcompactHandl
 {
     match handle.next_object(alloc, from) {
         Some(address) => address,
+        None => NOWHERE,
+    }
+}
+
+/// The address at which the object begins that has the word at this address, by the handle of a planned slide: 2^64 - 1 if no live
+/// object has such a word, or the handle has no plan.
+#[unsafe(no_mangle)]
+pub extern "C" fn pcompact_object_over(
+    alloc: Global,
+    handle: &mut PcompactHandle,
+    address: u64,
+) -> u64
+    ensures part { handle.new.2 ≡ handle.old.2 }
+    ensures object { (image : HeapImage) → plan_in handle.old ≡ Some image → IsObjectAddress image address result }
+    ensures not_planned { plan_in handle.old ≡ None → result ≡ 18446744073709551615 }
+{
+    match handle.object_over(alloc, address) {
+        Some(object) => object,
         None => NOWHERE,
     }
 }

@@ -25,6 +25,7 @@ mod timeline;
 
 pub use figures::TimelineFigures;
 pub use names::Names;
+pub use page::heap_words;
 pub use timeline::Timeline;
 pub use timeline::bar::Bar;
 pub use timeline::call::Call;

@@ -5,46 +5,60 @@ ghost use Rattle.schedule_timeline.specs.Page.{Has};
 
 mod page_layout;
 mod page_script;
+mod small_heap;
+mod words_script;
 
 use crate::names::{Names, write_names};
 use history::append_schedule;
-use page_layout::{AFTER_SCHEDULE, BEFORE_MOVES, BEFORE_SCHEDULE, HEAD, TAIL};
+use page_layout::{AFTER_SCHEDULE, BEFORE_HEAP, BEFORE_MOVES, BEFORE_SCHEDULE, HEAD, TAIL};
 use page_script::SCRIPT;
 use scheduler::Schedule;
+pub use small_heap::heap_words;
 use std::alloc::{AllocError, Global};
 use summary::Plan;
+use words_script::WORDS_SCRIPT;
 
-/// The page of a schedule and of the moves of a plan. It contains the schedule's text.
+/// The page of a schedule, of the moves of a plan and of the words of its heap, if these are given. It contains the schedule's
+/// text.
 pub(crate) fn page_of(
     alloc: Global,
     plan: &Plan,
     schedule: &Schedule,
     names: Names<'_>,
+    words: &str,
 ) -> Result<Vec<u8>, AllocError>
     ensures { IfOk result (λ page. Has (schedule_text schedule.now) page.items) }
 {
-    let mut page = front_of(alloc, plan, names)?;
+    let mut page = front_of(alloc, plan, names, words)?;
     append_schedule(&mut page, schedule)?;
     write_back(&mut page)?;
     Ok(page.into_bytes())
 }
 
-/// The part before the schedule's text: the layout, the names of the files and the moves.
-fn front_of(alloc: Global, plan: &Plan, names: Names<'_>) -> Result<String, AllocError> {
+/// The part before the schedule's text: the layout, the names of the files, the words and the moves.
+fn front_of(
+    alloc: Global,
+    plan: &Plan,
+    names: Names<'_>,
+    words: &str,
+) -> Result<String, AllocError> {
     let mut front = String::new(alloc);
     front.push_str(HEAD)?;
     write_names(&mut front, names)?;
+    front.push_str(BEFORE_HEAP)?;
+    front.push_str(words)?;
     front.push_str(BEFORE_MOVES)?;
     write_moves(&mut front, plan)?;
     front.push_str(BEFORE_SCHEDULE)?;
     Ok(front)
 }
 
-/// Writes the part after the schedule's text: the script.
+/// Writes the part after the schedule's text: the scripts.
 fn write_back(page: &mut String) -> Result<(), AllocError>
     ensures { OnOk result ((back : List ℕ) × (string_bytes page.new ≡ string_bytes page.old ++ back)) }
 {
     page.push_str(AFTER_SCHEDULE)?;
+    page.push_str(WORDS_SCRIPT)?;
     page.push_str(SCRIPT)?;
     page.push_str(TAIL)?;
     Ok(())

@@ -114,10 +114,16 @@ impl Timeline {
 
     /// The timeline as an HTML page, for the plan of its image, with the names of its files. The page contains the
     /// schedule's text and a script that steps through its lines.
-    pub fn page(&self, alloc: Global, plan: &Plan, names: Names<'_>) -> Result<Vec<u8>, AllocError>
+    pub fn page(
+        &self,
+        alloc: Global,
+        plan: &Plan,
+        names: Names<'_>,
+        words: &str,
+    ) -> Result<Vec<u8>, AllocError>
         ensures { IfOk result (λ page. Has (schedule_text self.now.schedule) page.items) }
     {
-        page_of(alloc, plan, &self.schedule, names)
+        page_of(alloc, plan, &self.schedule, names, words)
     }
 }
 

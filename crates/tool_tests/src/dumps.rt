@@ -1,7 +1,7 @@
 //! Dumps from slow and failing devices, and region sizes and a version that no command line can give. `tests/cli/test_import.py` has
 //! the words, figures and errors of other dumps, and `tests/faults/test_hostile.py` dumps that change between the two readings.
 use crate::checks::equal;
-use heap_dump::{ImportError, Imported, Options, import};
+use heap_dump::{Followed, ImportError, Imported, Options, import};
 use heap_image::{FromRead, Image, Intake, Version};
 use heap_samples::Trickle;
 use std::alloc::{AllocError, Global};
@@ -12,6 +12,8 @@ const SMALL: Options = Options {
     region_log: Some(3),
     allowance: 5,
     live_only: false,
+    followed: Followed::All,
+    packs: false,
     version: None,
 };
 

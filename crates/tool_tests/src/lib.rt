@@ -14,4 +14,6 @@ mod heaps;
 #[cfg(test)]
 mod names;
 #[cfg(test)]
+mod smaller;
+#[cfg(test)]
 mod texts;

@@ -35,6 +35,9 @@ pub const DEFINITION: Definition = Definition {
             "live-only",
             "Keep only objects that are reachable from the roots",
         ),
+        Argument::Flag("weak", "Don't follow weak, phantom and final references"),
+        Argument::Flag("weak-soft", "Don't follow soft references either"),
+        Argument::Flag("pack", "Leave out gaps that are the machine's padding"),
         CLASSES,
         HISTOGRAM,
         JSON,
@@ -60,7 +63,7 @@ const CLASSES: Argument = Argument::Valued(Valued {
     value: "FILE",
     values: Values::Texts,
     is_required: false,
-    help: "List each object: address, class, bytes, live or dead",
+    help: "List each object: address, id, class, bytes, live or dead",
 });
 
 /// The option `--histogram`, the number of classes to print.
@@ -87,6 +90,12 @@ pub struct Import<'a> {
     pub version: Option<u32>,
     /// Whether only reachable objects are kept.
     pub live_only: bool,
+    /// Whether weak, phantom and final references aren't followed.
+    pub weak: bool,
+    /// Whether soft references aren't followed either.
+    pub weak_soft: bool,
+    /// Whether gaps that are padding are left out.
+    pub pack: bool,
     /// The file for a list of objects.
     pub classes: Option<&'a str>,
     /// How many classes are printed, if they are.
@@ -115,6 +124,9 @@ impl<'a> Import<'a> {
             allowance: matches.get_one("allowance").unwrap_or(0),
             version: matches.get_one("version"),
             live_only: matches.get_flag("live-only"),
+            weak: matches.get_flag("weak"),
+            weak_soft: matches.get_flag("weak-soft"),
+            pack: matches.get_flag("pack"),
             classes: matches.get_str("classes"),
             histogram: matches.get_one("histogram"),
             json: matches.get_flag("json"),
@@ -142,5 +154,5 @@ impl<'a> Import<'a> {
 pub fn lines_call_import()
     ensures line { IsCallOf (codes "import") (codes "import" ∷ codes "heap.hprof" ∷ codes "heap.pcheap" ∷ []) }
     ensures lists { IsCallOf (codes "import") (codes "import" ∷ codes "heap.hprof" ∷ codes "heap.pcheap" ∷ codes "--classes" ∷ codes "objects" ∷ codes "--histogram" ∷ codes "20" ∷ codes "--stats" ∷ []) }
-    ensures options { IsCallOf (codes "import") (codes "import" ∷ codes "heap.hprof" ∷ codes "heap.pcheap" ∷ codes "--region-log" ∷ codes "12" ∷ codes "--allowance" ∷ codes "64" ∷ codes "--version" ∷ codes "3" ∷ codes "--live-only" ∷ codes "--atomic" ∷ codes "--verbose" ∷ []) }
+    ensures options { IsCallOf (codes "import") (codes "import" ∷ codes "heap.hprof" ∷ codes "heap.pcheap" ∷ codes "--region-log" ∷ codes "12" ∷ codes "--allowance" ∷ codes "64" ∷ codes "--version" ∷ codes "3" ∷ codes "--live-only" ∷ codes "--weak" ∷ codes "--weak-soft" ∷ codes "--pack" ∷ codes "--atomic" ∷ codes "--verbose" ∷ []) }
 {}

@@ -24,6 +24,7 @@ pub const DEFINITION: Definition = Definition {
     arguments: &[
         IMAGE,
         Argument::Flag("after", "Also draw the heap after its collection"),
+        Argument::Flag("moves", "Also draw where the live words go"),
         Argument::Valued(WIDTH),
         HEIGHT,
         Argument::Valued(SVG),
@@ -56,6 +57,8 @@ pub struct Map<'a> {
     pub shape: Shape,
     /// Whether to draw the heap after its collection, too.
     pub after: bool,
+    /// Whether to draw where live words go, too.
+    pub moves: bool,
     /// The number of cells of a row, if requested.
     pub width: Option<u32>,
     /// The number of rows, if requested.
@@ -107,6 +110,7 @@ impl<'a> Map<'a> {
             image: matches.get_str("IMAGE")?,
             shape: Shape::of(matches),
             after: matches.get_flag("after"),
+            moves: matches.get_flag("moves"),
             width: matches.get_one("width"),
             height: matches.get_one("height"),
             svg: matches.get_str("svg"),
@@ -120,5 +124,5 @@ impl<'a> Map<'a> {
 pub fn lines_call_map()
     ensures line { IsCallOf (codes "map") (codes "map" ∷ codes "heap.pcheap" ∷ []) }
     ensures options { IsCallOf (codes "map") (codes "map" ∷ codes "heap.pcheap" ∷ codes "--after" ∷ codes "--width" ∷ codes "100" ∷ codes "--height" ∷ codes "4" ∷ codes "--svg" ∷ codes "heap.svg" ∷ codes "--atomic" ∷ codes "--verbose" ∷ codes "--region-log" ∷ codes "12" ∷ codes "--allowance" ∷ codes "64" ∷ []) }
-    ensures looks { IsCallOf (codes "map") (codes "map" ∷ codes "--letters" ∷ codes "--color" ∷ codes "--no-color" ∷ codes "heap.pcheap" ∷ []) }
+    ensures looks { IsCallOf (codes "map") (codes "map" ∷ codes "--letters" ∷ codes "--moves" ∷ codes "--color" ∷ codes "--no-color" ∷ codes "heap.pcheap" ∷ []) }
 {}

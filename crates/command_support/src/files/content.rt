@@ -9,12 +9,16 @@ pub enum Content {
     Image,
     /// The heap dump of a Java virtual machine.
     Dump,
+    /// A heap dump of Android.
+    AndroidDump,
     /// A schedule.
     Schedule,
     /// A heap text.
     Text,
     /// Something that gzip has packed.
     Packed,
+    /// A picture (PNG).
+    Picture,
 }
 
 impl Content {
@@ -27,6 +31,8 @@ impl Content {
             || front.starts_with(b"PCHEAP03")
         {
             Some(Content::Image)
+        } else if front.starts_with(b"JAVA PROFILE 1.0.3") {
+            Some(Content::AndroidDump)
         } else if front.starts_with(b"JAVA PROFILE ") {
             Some(Content::Dump)
         } else if front.starts_with(b"schedule ") {
@@ -35,6 +41,8 @@ impl Content {
             Some(Content::Text)
         } else if front.starts_with(b"\x1f\x8b") {
             Some(Content::Packed)
+        } else if front.starts_with(b"\x89PNG") {
+            Some(Content::Picture)
         } else {
             None
         }

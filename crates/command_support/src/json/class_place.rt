@@ -11,6 +11,7 @@ pub(crate) enum ClassColumn {
     LiveBytes,
     DeadObjects,
     DeadBytes,
+    MachineBytes,
 }
 
 impl ClassColumn {
@@ -22,7 +23,8 @@ impl ClassColumn {
             ClassColumn::LiveObjects => ClassPlace::Before(ClassColumn::LiveBytes),
             ClassColumn::LiveBytes => ClassPlace::Before(ClassColumn::DeadObjects),
             ClassColumn::DeadObjects => ClassPlace::Before(ClassColumn::DeadBytes),
-            ClassColumn::DeadBytes => ClassPlace::BeforeName,
+            ClassColumn::DeadBytes => ClassPlace::Before(ClassColumn::MachineBytes),
+            ClassColumn::MachineBytes => ClassPlace::BeforeName,
         }
     }
 
@@ -35,6 +37,7 @@ impl ClassColumn {
             ClassColumn::LiveBytes => ",\"live_bytes\":",
             ClassColumn::DeadObjects => ",\"dead_objects\":",
             ClassColumn::DeadBytes => ",\"dead_bytes\":",
+            ClassColumn::MachineBytes => ",\"machine_bytes\":",
         }
     }
 }

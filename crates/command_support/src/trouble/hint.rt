@@ -1,10 +1,10 @@
 //! What to do about a file that a command refuses.
 ghost use Rattle.std.specs.Prelude.{◌≡◌};
-ghost use Rattle.command_support.specs.Hints.{hint_of, hint_of_dump, hint_of_found, hint_of_words};
+ghost use Rattle.command_support.specs.Hints.{hint_of, hint_of_dump, hint_of_found, hint_of_words, is_dump, is_early_end};
 
 use crate::files::content::Content;
 use command_times::Tenths;
-use dump_records::ImportError;
+use dump_records::{ImportError, Problem};
 use std::fmt;
 
 /// What is known of a file that a command refuses.
@@ -12,6 +12,8 @@ use std::fmt;
 pub enum Hint {
     /// It has no byte.
     Empty,
+    /// It is a dump whose end is missing.
+    CutShort,
     /// It has the first of these, and the command reads the second.
     Has(Content, Content),
     /// It is a dump whose heap has too many words, and with `--live-only` not.
@@ -58,6 +60,7 @@ impl Hint {
                 live_words: words,
                 most,
             }),
+            _ if is_early_end(error) && is_dump(Content::of(front)) => Some(Hint::CutShort),
             _ => Hint::of(Content::Dump, front),
         }
     }
@@ -86,7 +89,9 @@ impl Hint {
             | (Content::Dump, Some(Content::Dump))
             | (Content::Schedule, Some(Content::Schedule))
             | (Content::Text, Some(Content::Text))
-            | (Content::Packed, Some(Content::Packed)) => None,
+            | (Content::Packed, Some(Content::Packed))
+            | (Content::AndroidDump, Some(Content::AndroidDump))
+            | (Content::Picture, Some(Content::Picture)) => None,
             (_, Some(found)) => Some(Hint::Has(found, wanted)),
         }
     }
@@ -96,6 +101,9 @@ impl fmt::Display for Hint {
     fn fmt<W: fmt::Write>(&self, f: &mut fmt::Formatter<W>) -> fmt::Result {
         match self {
             Hint::Empty => f.write_str("it is empty"),
+            Hint::CutShort => f.write_str(
+                "it is cut short, as by a full disk, or it is still being written",
+            ),
             Hint::Has(found, wanted) => f.write_str(text_of(*found, *wanted)),
             Hint::LiveOnly {
                 words,
@@ -122,12 +130,34 @@ impl fmt::Display for Hint {
     }
 }
 
+/// Whether a dump ends too early.
+fn is_early_end(error: ImportError) -> bool
+    ensures { result ≡ is_early_end error }
+{
+    matches!(
+        error,
+        ImportError::Malformed {
+            problem: Problem::Cut | Problem::NoHeap | Problem::NoEnd,
+            ..
+        }
+    )
+}
+
+/// Whether a file with this content is a dump.
+fn is_dump(content: Option<Content>) -> bool
+    ensures { result ≡ is_dump content }
+{
+    matches!(content, Some(Content::Dump))
+}
+
 /// The hint about a file that has the first of these where the second is wanted.
 fn text_of(found: Content, wanted: Content) -> &'static str {
     match (found, wanted) {
-        (Content::Packed, Content::Dump) => {
-            "it is packed by gzip, gunzip -c DUMP | pcompact import - IMAGE reads it"
+        (Content::AndroidDump, Content::Dump) => {
+            "it is a heap dump of Android, hprof-conv of its tools makes one of version 1.0.2 of it"
         }
+        (Content::AndroidDump, _) => "it is a heap dump of Android",
+        (Content::Picture, _) => "it is a picture (PNG)",
         (Content::Packed, _) => "it is packed by gzip, gunzip unpacks it",
         (Content::Dump, Content::Image) =>
             "it is a heap dump, pcompact import makes an image of it",

@@ -2,9 +2,11 @@
 ghost use Rattle.std.specs.Prelude.{◌≢◌};
 
 use super::classes::Classes;
+use super::known_classes::KnownClasses;
 use super::resolution::{BATCH, Resolution};
 use super::sections::Sections;
-use crate::heap::arrangement::Arrangement;
+use crate::heap::arrangement::{Arrangement, Gaps};
+use crate::heap::weak_reference::WeakReference;
 use crate::heap::{UnsealedHeap, first_word, header};
 use dump_records::{Dump, ImportError, Problem};
 use std::alloc::{AllocError, Global};
@@ -12,6 +14,14 @@ use std::mem::size_of;
 
 /// The number of objects after which ids are first checked for repetition.
 const FIRST_LOOK: usize = 65_536;
+
+/// The most words by which an object may be larger in the machine than in an image, which has a header of one word: the header of
+/// an instance has at most 2 words there, that of an array 3, and a class has up to 17 words of fields that a dump leaves out.
+pub const INSTANCE_PADDING: u64 = 1;
+
+pub const ARRAY_PADDING: u64 = 2;
+
+pub const CLASS_PADDING: u64 = 17;
 
 /// What is known of an object at each step of the import.
 #[derive(Clone, Copy)]
@@ -166,20 +176,33 @@ impl Objects {
     }
 
     /// Computes the layout of the objects without a heap.
-    pub fn measure(&self, keeps_gaps: bool) -> Arrangement {
-        let mut arrangement = Arrangement::new(keeps_gaps);
+    pub(crate) fn measure(
+        &self,
+        gaps: Gaps,
+        classes: &Classes,
+        known: &KnownClasses,
+    ) -> Arrangement {
+        let mut arrangement = Arrangement::new(gaps);
         for entry in self.entries.as_slice() {
-            let _ = arrangement.place(entry.id, entry.object.words());
+            let padding = entry.most_padding(classes, known);
+            let _ = arrangement.place(entry.id, entry.object.words(), padding);
         }
         arrangement
     }
 
     /// Assigns an address to each object, and writes its first word.
-    pub fn place(&mut self, keeps_gaps: bool, heap: &mut UnsealedHeap) {
-        let mut arrangement = Arrangement::new(keeps_gaps);
+    pub(crate) fn place(
+        &mut self,
+        gaps: Gaps,
+        classes: &Classes,
+        known: &KnownClasses,
+        heap: &mut UnsealedHeap,
+    ) {
+        let mut arrangement = Arrangement::new(gaps);
         for entry in self.entries.as_mut_slice() {
             let words = entry.object.words();
-            let address = arrangement.place(entry.id, words);
+            let padding = entry.most_padding(classes, known);
+            let address = arrangement.place(entry.id, words, padding);
             heap.put(address, first_word(words, 0));
             entry.object = Object::Placed {
                 class: entry.object.class(),
@@ -204,6 +227,23 @@ impl Objects {
             }
         }
         resolution.end(self, heap)
+    }
+
+    /// Replaces the ids of these referents by references, and by 0 where no object has the id. Returns how many of those ids
+    /// are not 0.
+    pub fn resolve_referents(&self, weak: &mut [WeakReference]) -> u64 {
+        let mut unresolved = 0u64;
+        for reference in weak {
+            let found = self.address_of(reference.referent);
+            if found.is_none() && reference.referent != 0 {
+                unresolved = unresolved.saturating_add(1);
+            }
+            reference.referent = match found {
+                Some(address) => address.saturating_add(1),
+                None => 0,
+            };
+        }
+        unresolved
     }
 
     /// The references to the objects with these ids, or null where there is no such object.
@@ -277,6 +317,26 @@ impl Objects {
         }
     }
 
+    /// How many bytes the next object is away from the one with this index, in the order of ids.
+    pub(super) fn distance_after(&self, index: usize) -> Option<u64> {
+        let entry = self.entries.get(index)?;
+        let next = self.entries.get(index.saturating_add(1))?;
+        Some(next.id.saturating_sub(entry.id))
+    }
+
+    /// The most words by which the object with this index may be larger in the machine than in an image.
+    pub(super) fn most_padding(
+        &self,
+        index: usize,
+        classes: &Classes,
+        known: &KnownClasses,
+    ) -> u64 {
+        match self.entries.get(index) {
+            Some(entry) => entry.most_padding(classes, known),
+            None => 0,
+        }
+    }
+
     /// The index of the object with this id in the order of ids.
     pub fn index_of(&self, id: u64) -> Option<usize> {
         let (from, to) = self.sections.around(id)?;
@@ -297,6 +357,20 @@ impl Objects {
             }
         }
         Ok(())
+    }
+}
+
+impl Entry {
+    /// The most words by which the object may be larger in the machine than in an image.
+    fn most_padding(&self, classes: &Classes, known: &KnownClasses) -> u64 {
+        let class = self.object.class();
+        if class == 0 {
+            ARRAY_PADDING
+        } else if classes.has_id(class, self.id) || known.is_class_of_classes(class) {
+            CLASS_PADDING
+        } else {
+            INSTANCE_PADDING
+        }
     }
 }
 

@@ -48,8 +48,8 @@ impl Survivors {
     }
 }
 
-/// The address of a survivor in the new heap.
-fn forwarding_address(old: &UnsealedHeap, address: u64) -> u64 {
+/// The address of a survivor in the new heap, once it is forwarded.
+pub(super) fn forwarding_address(old: &UnsealedHeap, address: u64) -> u64 {
     old.word(address).saturating_sub(1)
 }
 

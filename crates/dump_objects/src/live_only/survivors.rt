@@ -1,5 +1,7 @@
 //! The objects of a heap that its roots reach.
+use super::evacuation::forwarding_address;
 use super::marking::mark_reachable;
+use crate::heap::weak_reference::WeakReference;
 use crate::heap::{UnsealedHeap, size};
 use std::alloc::{AllocError, Global};
 
@@ -31,5 +33,26 @@ impl Survivors {
             at = at.saturating_add(words);
         }
         Ok(survivors)
+    }
+
+    /// Moves weak references along with the survivors, once these are copied from the old heap. Those of other objects, or to
+    /// others, are dropped.
+    pub fn move_weak(&self, old: &UnsealedHeap, weak: &mut Vec<WeakReference>) {
+        weak.retain_mut(|reference| {
+            let referent = reference.referent.wrapping_sub(1);
+            if !self.has(reference.holder) || !self.has(referent) {
+                return false;
+            }
+            let field = reference.slot.saturating_sub(reference.holder);
+            reference.holder = forwarding_address(old, reference.holder);
+            reference.slot = reference.holder.saturating_add(field);
+            reference.referent = forwarding_address(old, referent).saturating_add(1);
+            true
+        });
+    }
+
+    /// Whether the object at this address of the old heap survives.
+    fn has(&self, address: u64) -> bool {
+        self.addresses.as_slice().binary_search(&address).is_ok()
     }
 }

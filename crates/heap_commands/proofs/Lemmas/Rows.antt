@@ -8,7 +8,7 @@ use Rattle.std.proofs.lemmas.List.{flat_map_more, length-append, length_push, ta
 use Rattle.std.proofs.lemmas.List.Elements.{filter-append}
 use Rattle.std.proofs.lemmas.List.Sums.{length-filter}
 use Rattle.std.proofs.lemmas.Str.Parse.{digit_from_value}
-use Rattle.heap_dump.specs.ClassNames.{name_of, newlines}
+use Rattle.heap_dump.specs.ClassNames.{id_text, name_of, newlines}
 use Rattle.heap_dump.specs.declared.listing.class_names.ClassNames.{ClassNames}
 use Rattle.heap_dump.specs.declared.listing.ListedObject.{ListedObject}
 use Rattle.heap_commands.specs.Histogram.{bytes_of}
@@ -45,18 +45,21 @@ state_in_line true = refl
 state_in_line false = refl
 
 -- the parts of a line
-row_of : (address name bytes state : List ℕ) → length address ≤ 20 → length name ≤ 2020 → length bytes ≤ 20 → length state ≤ 4
-    → newlines address ≡ 0 → newlines name ≡ 0 → newlines bytes ≡ 0 → newlines state ≡ 0
-    → HasRows ((address ++ codes " ") ++ (name ++ (codes " " ++ (bytes ++ (codes " " ++ (state ++ codes "\n")))))) 1
-row_of address name bytes state a n b s in_a in_n in_b in_s = record {
+row_of : (address id name bytes state : List ℕ) → length address ≤ 20 → length id ≤ 18 → length name ≤ 2020 → length bytes ≤ 20 → length state ≤ 4
+    → newlines address ≡ 0 → newlines id ≡ 0 → newlines name ≡ 0 → newlines bytes ≡ 0 → newlines state ≡ 0
+    → HasRows ((address ++ codes " ") ++ (id ++ (codes " " ++ (name ++ (codes " " ++ (bytes ++ (codes " " ++ (state ++ codes "\n")))))))) 1
+row_of address id name bytes state a i n b s in_a in_i in_n in_b in_s = record {
   short = omega (
     arith,
     a,
+    i,
     n,
     b,
     s,
-    length-append (address ++ codes " ") (name ++ after_name),
+    length-append (address ++ codes " ") (id ++ after_id),
     length-append address (codes " "),
+    length-append id after_id,
+    length-append (codes " ") (name ++ after_name),
     length-append name after_name,
     length-append (codes " ") (bytes ++ after_bytes),
     length-append bytes after_bytes,
@@ -66,11 +69,14 @@ row_of address name bytes state a n b s in_a in_n in_b in_s = record {
   rows = omega (
     arith,
     in_a,
+    in_i,
     in_n,
     in_b,
     in_s,
-    joined (address ++ codes " ") (name ++ after_name),
+    joined (address ++ codes " ") (id ++ after_id),
     joined address (codes " "),
+    joined id after_id,
+    joined (codes " ") (name ++ after_name),
     joined name after_name,
     joined (codes " ") (bytes ++ after_bytes),
     joined bytes after_bytes,
@@ -85,13 +91,16 @@ row_of address name bytes state a n b s in_a in_n in_b in_s = record {
     after_name : List ℕ
     after_name = codes " " ++ (bytes ++ after_bytes)
 
-pub is_row : (names : ClassNames) (object : ListedObject) → object.address < 2 ^ 64 → length (name_of names object.class) ≤ 2020
-    → newlines (name_of names object.class) ≡ 0 → HasRows (object_line names object) 1
-is_row names object small short in_line =
+    after_id : List ℕ
+    after_id = codes " " ++ (name ++ after_name)
+
+pub is_row : (names : ClassNames) (object : ListedObject) → object.address < 2 ^ 64 → length (id_text object.id) ≤ 18 → newlines (id_text object.id) ≡ 0
+    → length (name_of names object.class) ≤ 2020 → newlines (name_of names object.class) ≡ 0 → HasRows (object_line names object) 1
+is_row names object small id_short id_line short in_line =
     let bytes : bytes_of object.words < 2 ^ 64 = omega arith in
-    row_of (decimal object.address) (name_of names object.class) (decimal (bytes_of object.words)) (state_of object.is_live)
-    (number_short object.address small) short (number_short (bytes_of object.words) bytes) (state_short object.is_live)
-    (number_in_line object.address small) in_line (number_in_line (bytes_of object.words) bytes) (state_in_line object.is_live)
+    row_of (decimal object.address) (id_text object.id) (name_of names object.class) (decimal (bytes_of object.words)) (state_of object.is_live)
+    (number_short object.address small) id_short short (number_short (bytes_of object.words) bytes) (state_short object.is_live)
+    (number_in_line object.address small) id_line in_line (number_in_line (bytes_of object.words) bytes) (state_in_line object.is_live)
 
 pub no_rows : HasRows [] 0
 no_rows = record { rows = refl; short = omega arith }

@@ -2,16 +2,23 @@
 ghost use Rattle.std.specs.Prelude.{◌≡◌, ◌++◌, ℕ, List, OnOk, codes, string_bytes};
 ghost use Rattle.heap_dump.specs.ImportFigures.{AreFiguresOf};
 ghost use Rattle.heap_dump.specs.Listing.{AreObjectsOf};
-ghost use Rattle.heap_commands.specs.Histogram.{IsHistogram, bytes_of, classes_text, columns, dead_text, notes_text, part, row, rows_from, sums_text};
+ghost use Rattle.heap_commands.specs.Histogram.{IsHistogram, bytes_of, classes_text, columns, dead_text, followed_text, notes_text, part, row, rows_from, sums_text};
 
-use heap_dump::{ClassNames, ClassTotals, DeadWords, ImportFigures, ListedImport, Totals};
+use heap_dump::{
+    ClassNames, ClassTotals, DeadWords, Followed, ImportFigures, ListedImport, Totals,
+};
 use std::alloc::{AllocError, Global};
 
+/// Whose bytes the columns have.
+const BYTES_NOTE: &str =
+    "live and dead bytes are those in the image, machine bytes those in the Java machine, as jmap -histo has them\n";
+
 /// The names of the columns.
-const HEAD: &str = " num  live objects    live bytes  dead objects    dead bytes  class\n";
+const HEAD: &str =
+    " num  live objects    live bytes  dead objects    dead bytes machine bytes  class\n";
 
 /// Appends the `most` classes with the most bytes, the total of all classes, what the dead words are, and what the
-/// figures of an import mean. Bytes are those in the image.
+/// figures of an import mean. Bytes are those in the image, but for the last column, which has those in the machine.
 pub(crate) fn push_histogram(
     alloc: Global,
     import: &ListedImport,
@@ -98,9 +105,10 @@ fn push_columns(totals: &Totals, text: &mut String) -> Result<(), AllocError>
 {
     let (live, dead) = (totals.live_objects, totals.dead_objects);
     let (live_bytes, dead_bytes) = (bytes_of(totals.live_words), bytes_of(totals.dead_words));
+    let machine_bytes = bytes_of(totals.machine_words);
     write!(
         text,
-        " {live:>13} {live_bytes:>13} {dead:>13} {dead_bytes:>13}"
+        " {live:>13} {live_bytes:>13} {dead:>13} {dead_bytes:>13} {machine_bytes:>13}"
     )
 }
 
@@ -127,7 +135,7 @@ fn push_part(words: u64, meaning: &str, text: &mut String) -> Result<(), AllocEr
     writeln!(text, "  {bytes:>13} {meaning}")
 }
 
-/// Appends what two figures of an import mean.
+/// Appends what two figures of an import mean, which objects count as live, and whose bytes the columns have.
 fn push_notes(figures: ImportFigures, text: &mut String) -> Result<(), AllocError>
     ensures { OnOk result (string_bytes text.new ≡ string_bytes text.old ++ notes_text figures) }
 {
@@ -140,7 +148,26 @@ fn push_notes(figures: ImportFigures, text: &mut String) -> Result<(), AllocErro
         text,
         "unresolved {unresolved}: references and roots to objects that are not in the dump; they are null in the image"
     )?;
+    push_followed(figures.followed, text)?;
+    text.push_str(BYTES_NOTE)?;
     Ok(())
+}
+
+/// Appends what counts as live, where these references are followed.
+fn push_followed(followed: Followed, text: &mut String) -> Result<(), AllocError>
+    ensures { OnOk result (string_bytes text.new ≡ string_bytes text.old ++ followed_text followed) }
+{
+    match followed {
+        Followed::All => text.push_str(
+            "live counts what only weak, soft, phantom or final references lead to, which --weak leaves out\n",
+        ),
+        Followed::StrongAndSoft => text.push_str(
+            "live doesn't count what only weak, phantom or final references lead to\n",
+        ),
+        Followed::Strong => text.push_str(
+            "live doesn't count what only weak, soft, phantom or final references lead to\n",
+        ),
+    }
 }
 
 /// `words` in bytes, saturating.

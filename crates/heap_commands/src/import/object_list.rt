@@ -12,15 +12,15 @@ use std::alloc::{AllocError, Global};
 const PIECE: usize = 65_536;
 
 /// Room for the numbers and words of a line.
-const LINE_ROOM: usize = 64;
+const LINE_ROOM: usize = 96;
 
 /// Room for the lines that are collected before they are written.
 pub fn list_room(alloc: Global, names: &ClassNames) -> Result<String, AllocError> {
     String::with_capacity(alloc, names.longest().saturating_add(PIECE + LINE_ROOM))
 }
 
-/// Writes a line for each object of an image, in the order of addresses: its address, its class, its bytes in the image,
-/// and `live` or `dead`. `room` is that of [`list_room`]: then nothing is allocated.
+/// Writes a line for each object of an image, in the order of addresses: its address, its id in the dump, its class, its
+/// bytes in the image, and `live` or `dead`. `room` is that of [`list_room`]: then nothing is allocated.
 ///
 /// Fault 13 if the device fails, and 11 if memory runs out.
 pub fn give_list<O: Outlet>(
@@ -68,6 +68,8 @@ fn push_object(
 {
     let address = object.address;
     write!(lines, "{address} ")?;
+    object.push_id(lines)?;
+    lines.push_str(" ")?;
     names.push_name(object.class, lines)?;
     let (bytes, state) = (bytes_of(object.words), state_of(object.is_live));
     writeln!(lines, " {bytes} {state}")?;

@@ -103,11 +103,11 @@ module _ (image : HeapImage) where
   pub count_live : (live a words count : ℕ) → IsObjectAt image a words → IsNextLive image live a
       → HasObjectsBefore image live a count → HasObjectsBefore image (live + 1) (a + words) (count + 1)
   count_live live a words count at next =
-      let object : ListedObject = record { address = a; words = words; class = 0; is_live = true } in
+      let object : ListedObject = record { address = a; id = 0; words = words; machine_words = 0; class = 0; is_live = true } in
       count_more live (live + 1) count object at (live_more live object refl next)
 
   pub count_dead : (live a words count : ℕ) → IsObjectAt image a words
       → HasObjectsBefore image live a count → HasObjectsBefore image live (a + words) (count + 1)
   count_dead live a words count at =
-      let object : ListedObject = record { address = a; words = words; class = 0; is_live = false } in
+      let object : ListedObject = record { address = a; id = 0; words = words; machine_words = 0; class = 0; is_live = false } in
       count_more live live count object at (dead_more live object refl)

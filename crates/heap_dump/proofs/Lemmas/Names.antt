@@ -44,6 +44,9 @@ hex_short n small = digits_before 64 15 n [] (omega arith)
 pub unnamed_short : (id : ℕ) → id < 2 ^ 64 → length (codes "class@" ++ digits 16 false id) ≤ 2020
 unnamed_short id small = let long = length-append (codes "class@") (digits 16 false id) in omega (arith, long, hex_short id small)
 
+pub id_short : (id : ℕ) → id < 2 ^ 64 → length (codes "0x" ++ digits 16 false id) ≤ 18
+id_short id small = let long = length-append (codes "0x") (digits 16 false id) in omega (arith, long, hex_short id small)
+
 pub first_short : (number : ℕ) → length (first_name number) ≤ 2020
 first_short number = either 2020 (eqb number 0) _ _ (omega arith) (either 2020 (eqb number 1) _ _ (omega arith) (either 2020 (eqb number 2) _ _ (omega arith)
     (either 2020 (eqb number 3) _ _ (omega arith) (either 2020 (eqb number 4) _ _ (omega arith) (either 2020 (eqb number 5) _ _ (omega arith)
@@ -109,6 +112,9 @@ hex_line n = digits_line 64 n [] refl
 
 pub unnamed_line : (id : ℕ) → newlines (codes "class@" ++ digits 16 false id) ≡ 0
 unnamed_line id = no_newlines (codes "class@" ++ digits 16 false id) (joined (codes "class@") (digits 16 false id) refl (hex_line id))
+
+pub id_line : (id : ℕ) → newlines (codes "0x" ++ digits 16 false id) ≡ 0
+id_line id = no_newlines (codes "0x" ++ digits 16 false id) (joined (codes "0x") (digits 16 false id) refl (hex_line id))
 
 pub first_line : (number : ℕ) → newlines (first_name number) ≡ 0
 first_line number = no_newlines (first_name number) (either_line (eqb number 0) _ _ refl (either_line (eqb number 1) _ _ refl

@@ -1,5 +1,5 @@
 -- Sums with one object more.
-use Rattle.std.proofs.Common.{◌≡◌, ◌≢◌, ◌⊎◌, inl, inr, ℕ, ◌+◌, ◌<◌, true, false, not, cond, eqb, List, [], ◌∷◌, ◌++◌, length, length-set, get_or, get_or-set_other, get_or-set_same, set, take, sym, ◌∙◌, ap, ap₂, arith}
+use Rattle.std.proofs.Common.{◌≡◌, ◌≢◌, ◌⊎◌, inl, inr, ℕ, ◌+◌, ◌<◌, true, false, not, cond, eqb, List, [], ◌∷◌, ◌++◌, length, length-set, get_or, get_or-set_other, get_or-set_same, set, take, refl, sym, ◌∙◌, ap, ap₂, arith}
 use Rattle.std.specs.Prelude.{min, sum_by}
 use Rattle.std.proofs.lemmas.Bool.Decides.{eqb_tells}
 use Rattle.std.proofs.lemmas.List.{append-nil, take_more}
@@ -10,12 +10,13 @@ use Rattle.heap_dump.specs.declared.totals.ClassTotals.{ClassTotals}
 use Rattle.heap_dump.specs.declared.totals.Totals.{Totals}
 use Rattle.heap_dump.specs.Totals.{dead_words_of, held, live_words_of, objects_in, sums_in, sums_of}
 
-abbrev totals : ℕ → ℕ → ℕ → ℕ → Totals
-totals a b c d = record { live_objects = a; live_words = b; dead_objects = c; dead_words = d }
+abbrev totals : ℕ → ℕ → ℕ → ℕ → ℕ → Totals
+totals a b c d e = record { live_objects = a; live_words = b; dead_objects = c; dead_words = d; machine_words = e }
 
-same : (a a' b b' c c' d d' : ℕ) → a ≡ a' → b ≡ b' → c ≡ c' → d ≡ d' → totals a b c d ≡ totals a' b' c' d'
-same a a' b b' c c' d d' p q r s =
-    ap (λ x. totals x b c d) p ∙ ap (λ x. totals a' x c d) q ∙ ap (λ x. totals a' b' x d) r ∙ ap (λ x. totals a' b' c' x) s
+same : (a a' b b' c c' d d' e e' : ℕ) → a ≡ a' → b ≡ b' → c ≡ c' → d ≡ d' → e ≡ e' → totals a b c d e ≡ totals a' b' c' d' e'
+same a a' b b' c c' d d' e e' p q r s t =
+    ap (λ x. totals x b c d e) p ∙ ap (λ x. totals a' x c d e) q ∙ ap (λ x. totals a' b' x d e) r ∙ ap (λ x. totals a' b' c' x e) s
+    ∙ ap (λ x. totals a' b' c' d' x) t
 
 abbrev class_record : ℕ → Totals → ClassTotals
 class_record n t = record { class = n; totals = t }
@@ -36,24 +37,30 @@ kept : (f : ListedObject → ℕ) (objects : List ListedObject) (o : ListedObjec
     → old ≡ held (sum_by f (objects ++ o ∷ []))
 kept f objects o old is was = let e = sum_by_push f objects o in omega (arith, e, is, was)
 
-module _ (t : Totals) (objects : List ListedObject) (o : ListedObject) (n w : ℕ) (was : t ≡ sums_of objects) where
+module _ (t : Totals) (objects : List ListedObject) (o : ListedObject) (n w m : ℕ) (was : t ≡ sums_of objects)
+    (machine : m ≡ min (t.machine_words + o.machine_words) 18446744073709551615) where
+  all_words : m ≡ held (sum_by (λ x. x.machine_words) (objects ++ o ∷ []))
+  all_words = added (λ x. x.machine_words) objects o t.machine_words m o.machine_words refl (ap (λ x. x.machine_words) was) machine
+
   pub with_live : o.is_live ≡ true → n ≡ min (t.live_objects + 1) 18446744073709551615 → w ≡ min (t.live_words + o.words) 18446744073709551615
-      → totals n w t.dead_objects t.dead_words ≡ sums_of (objects ++ o ∷ [])
+      → totals n w t.dead_objects t.dead_words m ≡ sums_of (objects ++ o ∷ [])
   with_live live count words =
-      same n _ w _ t.dead_objects _ t.dead_words _
+      same n _ w _ t.dead_objects _ t.dead_words _ m _
       (added one_live objects o t.live_objects n 1 (ap (λ b. cond b 1 0) live) (ap (λ x. x.live_objects) was) count)
       (added live_words_of objects o t.live_words w o.words (ap (λ b. cond b o.words 0) live) (ap (λ x. x.live_words) was) words)
       (kept one_dead objects o t.dead_objects (ap (λ b. cond (not b) 1 0) live) (ap (λ x. x.dead_objects) was))
       (kept dead_words_of objects o t.dead_words (ap (λ b. cond b 0 o.words) live) (ap (λ x. x.dead_words) was))
+      all_words
 
   pub with_dead : o.is_live ≡ false → n ≡ min (t.dead_objects + 1) 18446744073709551615 → w ≡ min (t.dead_words + o.words) 18446744073709551615
-      → totals t.live_objects t.live_words n w ≡ sums_of (objects ++ o ∷ [])
+      → totals t.live_objects t.live_words n w m ≡ sums_of (objects ++ o ∷ [])
   with_dead dead count words =
-      same t.live_objects _ t.live_words _ n _ w _
+      same t.live_objects _ t.live_words _ n _ w _ m _
       (kept one_live objects o t.live_objects (ap (λ b. cond b 1 0) dead) (ap (λ x. x.live_objects) was))
       (kept live_words_of objects o t.live_words (ap (λ b. cond b o.words 0) dead) (ap (λ x. x.live_words) was))
       (added one_dead objects o t.dead_objects n 1 (ap (λ b. cond (not b) 1 0) dead) (ap (λ x. x.dead_objects) was) count)
       (added dead_words_of objects o t.dead_words w o.words (ap (λ b. cond b 0 o.words) dead) (ap (λ x. x.dead_words) was) words)
+      all_words
 
 -- the first objects and the next one
 pub sums_more : (objects : List ListedObject) (i : ℕ) (o : ListedObject) → i < length objects → o ≡ get_or objects i o

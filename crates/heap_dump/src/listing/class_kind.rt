@@ -1,5 +1,7 @@
 //! What the objects of a class are.
 
+use dump_objects::{ARRAY_PADDING, CLASS_PADDING, INSTANCE_PADDING};
+
 /// What the objects of a class are, as far as it tells how much larger they may be in the machine than in an image.
 #[derive(Clone, Copy)]
 pub(crate) enum ClassKind {
@@ -24,16 +26,13 @@ impl ClassKind {
     }
 
     /// The most words by which an object of this kind may be larger in the machine than in an image.
-    ///
-    /// The header of an instance has at most 2 words there, that of an array 3, and a class has up to 17 words of fields
-    /// that a dump leaves out. An image has a header of one word.
     pub(crate) fn most_padding(self) -> u64
         ensures { result ≡ padding_of self }
     {
         match self {
-            ClassKind::Arrays => 2,
-            ClassKind::Classes => 17,
-            ClassKind::Instances => 1,
+            ClassKind::Arrays => ARRAY_PADDING,
+            ClassKind::Classes => CLASS_PADDING,
+            ClassKind::Instances => INSTANCE_PADDING,
         }
     }
 }

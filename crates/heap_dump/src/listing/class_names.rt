@@ -4,8 +4,7 @@ ghost use Rattle.heap_dump.specs.ClassNames.{class_of, cut_name, inner_name, is_
 
 use super::class_kind::ClassKind;
 use super::class_number::{FIRST_CLASS, first_name};
-use super::texts::Texts;
-use dump_objects::{CLASS_OBJECTS, Inventory};
+use dump_objects::{CLASS_OBJECTS, Inventory, Texts};
 use std::alloc::{AllocError, Global};
 
 /// The most bytes of a name in the dump that are shown.

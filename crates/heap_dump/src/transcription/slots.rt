@@ -38,6 +38,11 @@ impl Slots {
         }
     }
 
+    /// The address of the reference after so many more.
+    pub(crate) fn reference_after(&self, more: u64) -> u64 {
+        self.reference.saturating_add(more)
+    }
+
     /// Puts the next reference, and returns whether there was room.
     pub(crate) fn put_reference(&mut self, heap: &mut UnsealedHeap, reference: u64) -> bool {
         if self.reference >= self.references_end {

@@ -4,8 +4,8 @@ ghost use Rattle.std.specs.Io.KnownBytes.{IsAtEnd};
 
 use super::{Transcript, Transcription};
 use crate::heap::draft::Draft;
-use crate::listing::object_classes::ObjectClasses;
-use dump_objects::{Arrangement, Inventory, UnsealedHeap};
+use crate::listing::object_labels::ObjectLabels;
+use dump_objects::{Arrangement, Followed, Inventory, UnsealedHeap, WeakReference};
 use dump_records::ImportError;
 use heap_image::Intake;
 use std::alloc::Global;
@@ -15,9 +15,11 @@ use std::alloc::Global;
 pub(crate) struct Transcribed {
     pub(crate) heap: UnsealedHeap,
     pub(crate) arrangement: Arrangement,
+    /// The references that aren't followed, whose words are null.
+    pub(crate) weak: Vec<WeakReference>,
     /// How many references and roots lead to objects that are missing from the dump.
     pub(crate) unresolved: u64,
-    pub(crate) classes: ObjectClasses,
+    pub(crate) labels: ObjectLabels,
 }
 
 impl Transcribed {
@@ -27,6 +29,7 @@ impl Transcribed {
         alloc: Global,
         inventory: &mut Inventory,
         placed: (UnsealedHeap, Arrangement),
+        followed: Followed,
         source: &mut R,
     ) -> Result<Transcribed, ImportError>
         ensures end { OnOk result (IsAtEnd (R.left source.new)) }
@@ -35,33 +38,37 @@ impl Transcribed {
         let (heap, arrangement) = placed;
         let Transcript {
             heap,
+            weak,
             unresolved,
-            classes,
+            labels,
             texts,
-        } = Transcription::of(alloc, inventory, heap, source)?;
+        } = Transcription::of(alloc, inventory, heap, followed, source)?;
         let missing = inventory.place_roots();
         Ok(Transcribed {
             heap,
             arrangement,
+            weak,
             unresolved: unresolved.saturating_add(missing),
-            classes: ObjectClasses::of(alloc, inventory, classes, texts)?,
+            labels: ObjectLabels::of(alloc, inventory, labels, texts)?,
         })
     }
 
-    /// The draft of an image of this heap, once its objects have their headers, and the classes of its objects.
-    pub(crate) fn into_draft(self, roots: Vec<u64>) -> (Draft, ObjectClasses) {
+    /// The draft of an image of this heap, once its objects have their headers, and the labels of its objects.
+    pub(crate) fn into_draft(self, roots: Vec<u64>) -> (Draft, ObjectLabels) {
         let Transcribed {
             heap,
             arrangement,
+            weak,
             unresolved,
-            classes,
+            labels,
         } = self;
         let draft = Draft {
             heap,
             roots,
+            weak,
             dropped_gaps: arrangement.dropped_gaps(),
             unresolved,
         };
-        (draft, classes)
+        (draft, labels)
     }
 }

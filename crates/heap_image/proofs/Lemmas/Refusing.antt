@@ -324,11 +324,15 @@ roots_same Two log allowance blocks tail = refl
 roots_same Three log allowance blocks tail = refl
 
 -- the checks speak of the slice of a vector, and the allowance plays no part in them
+pub fault_of_parts : (version : Version) (log allowance : ℕ) (blocks blocks' : List (List ℕ)) (tail : List ℕ) → blocks ≡ blocks' → (fault : Fault)
+    → first_some (live_list_faults (from_tail version (image_of log 0 blocks tail))) ≡ Some fault → first_some (live_list_faults (from_tail version (image_of log allowance blocks' tail))) ≡ Some fault
+fault_of_parts version log allowance blocks blocks' tail b fault first =
+    ap first_some (faults_same version log allowance blocks' tail) ∙ ap (λ xs. first_some (live_list_faults (from_tail version (image_of log 0 xs tail)))) (sym b) ∙ first
+
 pub check_of_parts : (version : Version) (log allowance : ℕ) (blocks blocks' : List (List ℕ)) (tail : List ℕ) → blocks ≡ blocks' → (fault : Fault)
     → ((fault ≡ Memory) ⊎ (first_some (live_list_faults (from_tail version (image_of log 0 blocks tail))) ≡ Some fault)) → ((fault ≡ Memory) ⊎ (first_some (live_list_faults (from_tail version (image_of log allowance blocks' tail))) ≡ Some fault))
 check_of_parts version log allowance blocks blocks' tail b fault (inl memory) = inl memory
-check_of_parts version log allowance blocks blocks' tail b fault (inr first) =
-    inr (ap first_some (faults_same version log allowance blocks' tail) ∙ ap (λ xs. first_some (live_list_faults (from_tail version (image_of log 0 xs tail)))) (sym b) ∙ first)
+check_of_parts version log allowance blocks blocks' tail b fault (inr first) = inr (fault_of_parts version log allowance blocks blocks' tail b fault first)
 
 pub no_fault_of_parts : (version : Version) (log allowance : ℕ) (blocks blocks' : List (List ℕ)) (tail : List ℕ) → blocks ≡ blocks' → first_some (live_list_faults (from_tail version (image_of log 0 blocks tail))) ≡ None → first_some (live_list_faults (from_tail version (image_of log allowance blocks' tail))) ≡ None
 no_fault_of_parts version log allowance blocks blocks' tail b none =

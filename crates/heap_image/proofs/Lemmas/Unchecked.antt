@@ -23,11 +23,15 @@ front_reason version log allowance blocks tail fault (inr first) =
     inr (first_some-append (front_faults (bytes ++ rest)) _ fault (ap first_some (front_faults-append bytes rest refl) ∙ first))
 
 -- so is a fault of the live list or the roots, where the front has none
+pub first_reason : (version : Version) (image : HeapImage) → HasFittingNumbers version image → (fault : Fault)
+    → first_some (live_list_faults (from_tail version image)) ≡ Some fault → first_fault (listed_text version image) ≡ Some fault
+first_reason version image fits fault first =
+    ap first_fault (sym (append-nil (listed_text version image)))
+    ∙ first_fault-append version image fits []
+    ∙ first_some-append (live_list_faults (from_tail version image)) _ fault first
+
 pub list_reason : (version : Version) (image : HeapImage) → HasFittingNumbers version image → (fault : Fault)
     → (fault ≡ Memory) ⊎ (first_some (live_list_faults (from_tail version image)) ≡ Some fault)
     → (fault ≡ Memory) ⊎ (first_fault (listed_text version image) ≡ Some fault)
 list_reason version image fits fault (inl memory) = inl memory
-list_reason version image fits fault (inr first) =
-    inr (ap first_fault (sym (append-nil (listed_text version image)))
-    ∙ first_fault-append version image fits []
-    ∙ first_some-append (live_list_faults (from_tail version image)) _ fault first)
+list_reason version image fits fault (inr first) = inr (first_reason version image fits fault first)

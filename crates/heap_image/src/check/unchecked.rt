@@ -1,16 +1,17 @@
 //! The live objects of a heap before they are checked, and their check.
 ghost use Rattle.std.specs.Prelude.{◌≡◌, ◌<◌, ◌≤◌, ◌^◌, None, length, IfOk, IfSome, IfErr};
 ghost use Rattle.object_heap.specs.Sizes.{AreSizes};
-ghost use Rattle.object_heap.specs.HeapImage.{heap_words, with_live};
+ghost use Rattle.object_heap.specs.HeapImage.{HasLiveList, HeapImage, heap_words, with_live};
+ghost use Rattle.heap_marking.specs.Soundness.{AreReferencesOrWellFormed};
 ghost use Rattle.heap_image.specs.Checks.{AreOfTail, AreSeen, IsMemoryOr, MayReport, Reports, first_in_tail};
 ghost use Rattle.heap_image.specs.ImageText.{first_object_fault};
 
 use super::{check_live, misplaced_index};
 use crate::marking::{Reached, find_reachable};
 use crate::{Fault, Version};
-use heap_marking::{Marker, PIECE, sizes_if_sound};
+use heap_marking::{Marker, PIECE, mark_references, sizes_if_sound};
 use object_heap::{Bits, Heap};
-use std::alloc::Global;
+use std::alloc::{AllocError, Global};
 
 /// Live objects that are sound.
 #[derive(Drop)]
@@ -61,7 +62,7 @@ pub(crate) fn find_sound_objects<M: Marker>(
 
 /// Finds the live objects of a heap. `tail` is what follows the words in a text of this version: the roots, from which
 /// the marker marks, or the live list.
-fn find_live_objects<M: Marker>(
+pub(crate) fn find_live_objects<M: Marker>(
     alloc: Global,
     heap: &Heap<'_>,
     version: Version,
@@ -102,6 +103,46 @@ fn find_live_objects<M: Marker>(
 }
 
 impl Found {
+    /// The references that these objects may have. `None` if all objects are known to be well-formed. The only error is that
+    /// memory runs out.
+    pub(crate) fn references(&self, alloc: Global) -> Result<Option<Bits>, AllocError>
+        ensures { (heap : HeapImage) → AreSeen heap self.now.live.items self.now.begins self.now.well_formed
+            → IfOk result (AreReferencesOrWellFormed (with_live heap self.now.live.items)) }
+    {
+        if self.well_formed {
+            return Ok(None);
+        }
+        mark_references(alloc, Some(&self.begins))
+    }
+
+    /// The same objects, if all are sound, with their sizes. Without sizes one thread checks the objects of their heap, and
+    /// finds the first fault.
+    pub(crate) fn sound(
+        self,
+        heap: &Heap<'_>,
+        sizes: Option<Vec<[u32; PIECE]>>,
+    ) -> Result<SoundObjects, Fault>
+        requires seen { AreSeen heap.now self.live.items self.begins self.well_formed }
+        requires sound { IfSome sizes (λ _. HasLiveList (with_live heap.now self.live.items)) }
+        requires sizes { IfSome sizes (λ sizes. AreSizes (with_live heap.now self.live.items) sizes.items) }
+        ensures found { IfOk result (λ sound. sound.found ≡ self) }
+        ensures sizes { IfOk result (λ sound. IfSome sound.sizes
+            (λ sizes. AreSizes (with_live heap.now self.live.items) sizes.items)) }
+        ensures faults { Reports result (first_object_fault (with_live heap.now self.live.items)) }
+    {
+        let Some(sizes) = sizes else {
+            self.check(heap)?;
+            return Ok(SoundObjects {
+                found: self,
+                sizes: None,
+            });
+        };
+        Ok(SoundObjects {
+            found: self,
+            sizes: Some(sizes),
+        })
+    }
+
     /// Checks the live objects of their heap and returns their first fault. One thread visits each object once.
     fn check(&self, heap: &Heap<'_>) -> Result<(), Fault>
         requires { AreSeen heap.now self.now.live.items self.now.begins self.now.well_formed }

@@ -13,10 +13,12 @@ pub(crate) const HEAD: &str = r##"<!DOCTYPE html>
 :root { color-scheme: light dark; --text: #111; --page: #fff; --quiet: #555; --edge: #767676; --lane: #eee; --frame: #c00000;
   --outside: #ddd; --start: #fff; --claimed: #b35c00; --stripe: #f0b050; --filled: #6ba3e0; --settled: #1f4e8c; --on-settled: #fff;
   --on-filled: #111; --even: #5a94d8; --odd: #f3c77f; --waiting: #fff; --on-bar: #111; --mark: #111;
+  --word0: #cfe3ff; --word1: #ffe0b8; --word2: #cdeccf; --word3: #f2d3ee; --word4: #e6e4b4; --word5: #d9d9d9;
   --share1: #b9d3f0; --share2: #7fadde; --share3: #3f78bd; --share4: #163c70 }
 @media (prefers-color-scheme: dark) { :root { --text: #eee; --page: #16181c; --quiet: #b4b4b4; --edge: #8a8a8a; --lane: #2a2d33; --frame: #ff7a6b;
   --outside: #3a3d42; --start: #16181c; --claimed: #f0a040; --stripe: #8a5a10; --filled: #2f62a5; --settled: #b9d6ff; --on-settled: #111;
   --on-filled: #fff; --even: #1d3f6e; --odd: #8c5a16; --waiting: #16181c; --on-bar: #fff; --mark: #fff;
+  --word0: #1d3f6e; --word1: #6b4312; --word2: #1d5130; --word3: #5c2a57; --word4: #54511a; --word5: #45484e;
   --share1: #2c4d78; --share2: #3c72b4; --share3: #79a9e4; --share4: #cfe3ff } }
 body { font: 15px/1.4 sans-serif; margin: 16px; max-width: 1100px; color: var(--text); background: var(--page) }
 h1 { font-size: 20px; margin: 0 0 4px }
@@ -55,6 +57,21 @@ i.share1 { background: var(--share1) }
 i.share2 { background: var(--share2) }
 i.share3 { background: var(--share3) }
 i.share4 { background: var(--share4) }
+.words { overflow-x: auto; margin: 4px 0 }
+.words table { border-collapse: collapse; font: 12px/1.25 monospace }
+.words caption { text-align: left; color: var(--quiet); padding: 2px 0 }
+.words th { text-align: left; font-weight: normal; width: 124px; min-width: 124px; padding: 2px 4px 2px 0; vertical-align: top }
+.words th small { display: block; color: var(--quiet); min-height: 1.25em; font-size: 11px }
+.words td { border: 1px solid var(--edge); min-width: 38px; padding: 1px 3px; text-align: center; position: relative }
+.words b { display: block }
+.words td.now { outline: 3px solid var(--frame); outline-offset: -2px }
+.words .dead { color: var(--quiet) }
+.words .o0 { background: var(--word0) }
+.words .o1 { background: var(--word1) }
+.words .o2 { background: var(--word2) }
+.words .o3 { background: var(--word3) }
+.words .o4 { background: var(--word4) }
+.words .o5 { background: var(--word5) }
 #band { display: grid; grid-template-columns: auto minmax(0, 1fr) auto }
 #names, #filled { margin: 1px 6px 0 0; padding: 0; text-align: right; font-size: 12px; line-height: 20px; white-space: nowrap }
 #filled { margin: 1px 0 0 6px; text-align: left }
@@ -74,15 +91,15 @@ i.share4 { background: var(--share4) }
 #workers li.acts { font-weight: bold }
 #both { display: flex; gap: 24px; flex-wrap: wrap }
 #both > div { flex: 1 1 320px; min-width: 0 }
-@media (max-width: 480px) { body { margin: 8px } #axis { grid-column: 1 / -1 } #filled { font-size: 10px } #what { font-size: 16px } #near { padding-left: 56px } }
+@media (max-width: 480px) { body { margin: 8px } #axis { grid-column: 1 / -1 } #filled { font-size: 10px } #what { font-size: 16px } .words th { width: 62px; min-width: 62px } .words td { min-width: 28px; padding: 1px 0 } #near { padding-left: 56px } }
 </style>
 </head>
 <body>
 <h1>A schedule of a collection, line by line</h1>
 <p id="whose">"##;
 
-/// The part between the names of the files and the moves.
-pub(crate) const BEFORE_MOVES: &str = r##"</p>
+/// The part between the names of the files and the words of the heap.
+pub(crate) const BEFORE_HEAP: &str = r##"</p>
 <div class="controls" role="group" aria-label="the line that is shown">
 <button id="begin" type="button" aria-label="Start: go to the first line" aria-keyshortcuts="Home">Start</button>
 <button id="back" type="button" aria-label="Back by a line" aria-keyshortcuts="ArrowLeft">Back</button>
@@ -100,7 +117,7 @@ pub(crate) const BEFORE_MOVES: &str = r##"</p>
 <span id="line"></span>
 </div>
 <input id="slider" type="range" min="1" value="1" step="1" aria-label="line of the schedule">
-<p class="legend">Keys: space plays and pauses; left and right go back and on by a line, page up and page down by a hundred; Home and End go to the first and the last line; r and w go to the next line of the region and of the worker, R and W to the one before.</p>
+<p class="legend">Keys: space plays and pauses; left and right go back and on by a line, page up and page down by a hundred; Home and End go to the first and the last line; f goes to the next line that ends a fill; r and w go to the next line of the region and of the worker; F, R and W to the one before.</p>
 <div id="said" aria-live="polite" aria-atomic="true"><p id="what"></p><p id="why"></p></div>
 <h2>Workers: what they have in hand, and how much each fills</h2>
 <div id="band"><ul id="names" aria-hidden="true"></ul><div id="chart"><canvas id="lanes" role="img" aria-label="a lane for each worker, along the lines of the schedule"></canvas><div id="cursor"></div></div><ul id="filled" aria-label="what each worker fills"></ul>
@@ -110,6 +127,12 @@ pub(crate) const BEFORE_MOVES: &str = r##"</p>
 <h2>Regions of the heap</h2>
 <div id="regions" role="img" aria-label="a cell for each region of the heap; Region, below, tells of one"></div>
 <p class="legend"><span><i class="start"></i>as at the start</span> <span><i class="claimed"></i>claimed</span> <span><i class="filling"></i>being filled</span> <span><i class="filled"></i>filled</span> <span><i class="settled"></i>settled</span> <span><i class="outside"></i>not to be filled.</span> The small number in a cell is the number of regions that have still to read it. <label id="numbered" hidden><input id="numbers" type="checkbox"> Numbers in all cells</label></p>
+<section id="words" aria-label="the words of the heap" hidden>
+<h2>Words of the heap, with their objects</h2>
+<div id="words-before" class="words"></div>
+<div id="words-now" class="words"></div>
+<p class="legend">A letter names the object that a word belongs to. head is its header, an arrow a reference and where it leads, &middot; a dead word. Framed words were copied by this line. References of an object across the end of a region are redirected after the last line.</p>
+</section>
 <div class="controls" role="group" aria-label="lines of a region">
 <label>Region <input id="region" type="number" min="0" value="0" step="1"></label>
 <button id="region-back" type="button" aria-label="Line before, of this region" aria-keyshortcuts="Shift+R">Line before</button>
@@ -125,6 +148,11 @@ pub(crate) const BEFORE_MOVES: &str = r##"</p>
 <div><h2>Lines around this one</h2><ol id="near"></ol></div>
 <div><h2>Workers</h2><ul id="workers"></ul></div>
 </div>
+<script type="text/plain" id="heap">
+"##;
+
+/// The part between the words of the heap and the moves.
+pub(crate) const BEFORE_MOVES: &str = r##"</script>
 <script type="text/plain" id="moves">
 "##;
 

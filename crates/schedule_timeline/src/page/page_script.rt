@@ -294,6 +294,7 @@ pub(crate) const SCRIPT: &str = r##"'use strict';
     element('slider').setAttribute('aria-valuetext', 'line ' + current + ' of ' + last);
     element('wanted').value = current;
     element('about').textContent = about(looked, now);
+    if (heapWords) heapWords.show(now, current, calls[current - FIRST], isToFill);
     element('cursor').style.left = (last > 1 ? ((current - 1) / (last - 1)) * 100 : 0) + '%';
   };
 
@@ -434,6 +435,8 @@ pub(crate) const SCRIPT: &str = r##"'use strict';
     PageUp: () => jump(current - 100),
     Home: () => jump(1),
     End: () => jump(last),
+    f: () => follow((call) => call.verb === 'complete', 1),
+    F: () => follow((call) => call.verb === 'complete', -1),
     r: () => follow(isOfRegion, 1),
     R: () => follow(isOfRegion, -1),
     w: () => follow(isOfWorker, 1),
@@ -488,6 +491,7 @@ pub(crate) const SCRIPT: &str = r##"'use strict';
   element('wanted').max = last;
   element('last').textContent = 'line ' + last;
   element('region').max = moves.regions - 1;
+  if (heapWords) heapWords.begin(moves.regions);
   draw();
   const wanted = /^#line=([0-9]+)$/.exec(window.location.hash);
   show(wanted ? Number(wanted[1]) : 1);

@@ -8,7 +8,7 @@ pub loop-object-preserved : goal.loop-object-preserved
 loop-object-preserved c =
     let objects = c.args.objects.now in
     let i = c.loop-object.object-index in
-    let none : ListedObject = record { address = 0; words = 0; class = 0; is_live = false } in
+    let none : ListedObject = record { address = 0; id = 0; words = 0; machine_words = 0; class = 0; is_live = false } in
     let so_far = c.loop-object.invariant in
     let count = c.larger-count.result in
     record {

@@ -16,7 +16,7 @@ loop-object-preserved g c =
     let names = c.args.import.now.names in
     let objects = c.args.import.now.objects.items in
     let i = c.loop-object.object-index in
-    let none : ListedObject = record { address = 0; words = 0; class = 0; is_live = false } in
+    let none : ListedObject = record { address = 0; id = 0; words = 0; machine_words = 0; class = 0; is_live = false } in
     let items = c.as_slice-object-items.result.now in
     let same : items ≡ objects = c.as_slice-object-items.ensures.value in
     let object = get_or items i none in

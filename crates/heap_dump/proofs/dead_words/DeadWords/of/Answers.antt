@@ -10,7 +10,7 @@ loop-object-preserved c =
     let names = c.args.names.now in
     let objects = c.args.objects.now in
     let i = c.loop-object.object-index in
-    let none : ListedObject = record { address = 0; words = 0; class = 0; is_live = false } in
+    let none : ListedObject = record { address = 0; id = 0; words = 0; machine_words = 0; class = 0; is_live = false } in
     let object = get_or objects i none in
     let below = c.loop-object-test.true in
     let is : object ≡ get_or objects i object = get_or_default objects i none object below in

@@ -10,27 +10,22 @@ use Rattle.heap_image.specs.Unchecked.{numbers_in}
 use Rattle.heap_image.specs.declared.check.unchecked.Found.{Found}
 use Rattle.heap_image.specs.declared.from_regions.UncheckedParts.{UncheckedParts}
 use Rattle.heap_image.proofs.Lemmas.Blocks.{blocks_are}
-use Rattle.heap_image.proofs.Lemmas.FromTail.{from_tail-IsValid}
+use Rattle.heap_image.proofs.Lemmas.FoundImages.{found_is, found_sound, found_valid, image_of_found}
 use Rattle.heap_image.proofs.Lemmas.LiveListFaults.{IsFaultlessList}
-use Rattle.heap_image.proofs.Lemmas.Refusing.{check_of_parts, no_fault_of_parts, parts_are}
+use Rattle.heap_image.proofs.Lemmas.Refusing.{check_of_parts}
 use Rattle.heap_image.proofs.from_regions.UncheckedParts.into_image.Goals as goal
 
 -- the image of what was found in the heap of these parts is valid, and is that of the numbers
 module _ (parts : UncheckedParts) (found : Found) (is : AreOfTail (image_of parts.region_log 0 parts.regions.items []) parts.version parts.tail.items found) where
-  abbrev roots : Option (List ℕ)
-  roots = option_map (λ v. v.items) found.roots
-
-  abbrev image : HeapImage
-  image = versioned_image_of parts.version parts.region_log parts.allowance parts.regions.items found.live.items roots
-
-  image_is : image ≡ from_tail parts.version (numbers_in parts)
-  image_is = parts_are parts.version parts.region_log parts.allowance parts.regions.items parts.regions.items parts.tail.items found.live.items roots refl is.live is.roots
+  image_is : image_of_found parts.version parts.region_log parts.allowance parts.regions.items parts.tail.items found is ≡ from_tail parts.version (numbers_in parts)
+  image_is = found_is parts.version parts.region_log parts.allowance parts.regions.items parts.tail.items found is
 
   sound_is : first_in_tail parts.version (image_of parts.region_log 0 parts.regions.items []) parts.tail.items ≡ None → first_some (live_list_faults (from_tail parts.version (numbers_in parts))) ≡ None
-  sound_is none = no_fault_of_parts parts.version parts.region_log parts.allowance parts.regions.items parts.regions.items parts.tail.items refl none
+  sound_is = found_sound parts.version parts.region_log parts.allowance parts.regions.items parts.tail.items found is
 
-  valid : IsFaultlessList → HasFittingNumbers parts.version (numbers_in parts) → first_some (live_list_faults (from_tail parts.version (numbers_in parts))) ≡ None → IsValid image
-  valid faultless fits sound = subst IsValid (sym image_is) (from_tail-IsValid faultless parts.version (numbers_in parts) fits sound)
+  valid : IsFaultlessList → HasFittingNumbers parts.version (numbers_in parts) → first_some (live_list_faults (from_tail parts.version (numbers_in parts))) ≡ None
+      → IsValid (image_of_found parts.version parts.region_log parts.allowance parts.regions.items parts.tail.items found is)
+  valid = found_valid parts.version parts.region_log parts.allowance parts.regions.items parts.tail.items found is
 
 -- the heap of these parts
 heap_of : (parts : UncheckedParts) (heap : HeapImage) (blocks : List (List ℕ)) → heap ≡ image_of parts.region_log 0 blocks [] → blocks ≡ parts.regions.items → heap ≡ image_of parts.region_log 0 parts.regions.items []
@@ -74,7 +69,7 @@ returns-in-Ok-clause-blocks g c =
     let is = subst (λ heap. AreOfTail heap parts.version parts.tail.items found) same c.in-Ok.ensures.found in
     let none = subst (λ heap. first_in_tail parts.version heap parts.tail.items ≡ None) same c.in-Ok.ensures.faults.ok in
     let good = valid parts found is c.objects_without_faults.ensures.live_list c.requires.fits (sound_is parts found is none) in
-    blocks_are c.blocks_joined.ensures.count c.blocks_joined.ensures.parts parts.version parts.region_log parts.allowance parts.regions.items found.live.items (roots parts found is) (record { whole = c.requires.regions; valid = good })
+    blocks_are c.blocks_joined.ensures.count c.blocks_joined.ensures.parts parts.version parts.region_log parts.allowance parts.regions.items found.live.items (option_map (λ v. v.items) found.roots) (record { whole = c.requires.regions; valid = good })
     ∙ ap (λ image. map (block_of image) (range_with_len 0 (region_count image))) (sym c.with_seen.ensures)
 
 pub returns-in-Ok-clause-sound : goal.returns-in-Ok-clause-sound

@@ -1,4 +1,0 @@
-use Rattle.heap_dump.proofs.listing.texts.Texts.append_rest.Given as goal
-
-abbrev pub decreases-loop-rest : goal.decreases-loop-rest
-decreases-loop-rest g l = l.rest
