@@ -129,7 +129,9 @@ impl Source<'_> {
         }
         kept.references.push(1 + kept.words.len() as u64)?;
         kept.words.push(self.new_header(a))?;
-        self.keep_fields(&mut kept.words, a + 1, end)
+        let data = a + 1 + self.image.references_at(a);
+        self.keep_references(&mut kept.words, a + 1, data)?;
+        self.keep_data(&mut kept.words, data, end)
     }
 
     /// Whether a region of the words from `from` up to `to` is cut.
@@ -155,17 +157,37 @@ impl Source<'_> {
         u64::from(OBJECT) << 56 | (references - fewer_references) << 32 | (size - fewer)
     }
 
-    /// Keeps the fields of a live object from `from` up to `to`, but for those that are cut. References that are cut become
-    /// null.
-    fn keep_fields(self, words: &mut Vec<u64>, from: u64, to: u64) -> Result<(), AllocError>
+    /// Keeps the references of a live object from `from` up to `to`, but for fields that are cut. References that are cut
+    /// become null.
+    fn keep_references(self, words: &mut Vec<u64>, from: u64, to: u64) -> Result<(), AllocError>
         requires { to ≤ heap_words self.image.now }
     {
         for address in from..to {
             if self.cut.covers(Part::References, address) {
                 words.push(0)?;
-            } else if !self.cut.covers(Part::Fields, address) {
-                words.push(self.image.word(address))?;
+            } else {
+                self.keep_field(words, address)?;
             }
+        }
+        Ok(())
+    }
+
+    /// Keeps the data words of a live object from `from` up to `to`, but for fields that are cut.
+    fn keep_data(self, words: &mut Vec<u64>, from: u64, to: u64) -> Result<(), AllocError>
+        requires { to ≤ heap_words self.image.now }
+    {
+        for address in from..to {
+            self.keep_field(words, address)?;
+        }
+        Ok(())
+    }
+
+    /// Keeps a word of a live object behind its header, unless it is cut.
+    fn keep_field(self, words: &mut Vec<u64>, address: u64) -> Result<(), AllocError>
+        requires { address < heap_words self.image.now }
+    {
+        if !self.cut.covers(Part::Fields, address) {
+            words.push(self.image.word(address))?;
         }
         Ok(())
     }
