@@ -348,7 +348,7 @@ Options:
       --weak            Don't follow weak, phantom and final references
       --weak-soft       Don't follow soft references either
       --pack            Leave out gaps that are the machine's padding
-      --classes <FILE>  List each object: address, id, class, bytes, live or dead
+      --classes <FILE>  List objects: address, id, class, bytes, live or dead
       --histogram <n>   Print the n classes with the most bytes, live and dead
       --json            Print a JSON object
       --stats           Print timings and peak memory to stderr

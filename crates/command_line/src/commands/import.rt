@@ -63,7 +63,7 @@ const CLASSES: Argument = Argument::Valued(Valued {
     value: "FILE",
     values: Values::Texts,
     is_required: false,
-    help: "List each object: address, id, class, bytes, live or dead",
+    help: "List objects: address, id, class, bytes, live or dead",
 });
 
 /// The option `--histogram`, the number of classes to print.
