@@ -53,7 +53,8 @@ _pcompact_read() {
                 'generate --seed' | \
                 'generate --refs' | \
                 'generate --version' | \
-                'generate --allowance') option=$word ;;
+                'generate --allowance' | \
+                'reduce --step') option=$word ;;
             'collect --progress' | \
                 'verify --progress' | \
                 'summary --progress' | \
@@ -69,7 +70,8 @@ _pcompact_read() {
                 'upgrade --progress' | \
                 'import --progress' | \
                 'compare --progress' | \
-                'generate --progress') open=$word ;;
+                'generate --progress' | \
+                'reduce --progress') open=$word ;;
             esac
         elif [[ -z $command ]]; then
             command=$word
@@ -89,16 +91,17 @@ _pcompact_takes() {
     verify) options='--explain --ignore-free --region-log --allowance --json --stats --progress -v --verbose -h --help' most=2 ;;
     summary) options='--heading --region-log --allowance --json --progress -v --verbose -h --help' most=1 ;;
     order) options='--region-log --allowance --json --progress -v --verbose -h --help' most=1 ;;
-    map) options='--after --width --height --svg --region-log --allowance --letters --color --no-color --atomic --progress -v --verbose -h --help' most=1 ;;
+    map) options='--after --moves --width --height --svg --region-log --allowance --letters --color --no-color --atomic --progress -v --verbose -h --help' most=1 ;;
     text) options='--progress -v --verbose -h --help' most=1 ;;
     assemble) options='--atomic --progress -v --verbose -h --help' most=2 ;;
     record) options='-w --workers --turns --region-log --allowance --atomic --stats --progress -v --verbose -h --help' most=3 ;;
     replay) options='--region-log --allowance --progress -v --verbose -h --help' most=2 ;;
     timeline) options='--width --svg --html --region-log --allowance --letters --color --no-color --atomic --progress -v --verbose -h --help' most=2 ;;
     upgrade) options='--to --progress --atomic -v --verbose -h --help' most=2 ;;
-    import) options='--region-log --allowance --version --live-only --classes --histogram --json --stats --progress --atomic -v --verbose -h --help' most=2 ;;
+    import) options='--region-log --allowance --version --live-only --weak --weak-soft --pack --classes --histogram --json --stats --progress --atomic -v --verbose -h --help' most=2 ;;
     compare) options='--explain --json --progress -v --verbose -h --help' most=2 ;;
     generate) options='--words --live --region-log --seed --refs --version --allowance --progress --atomic -v --verbose -h --help' most=1 ;;
+    reduce) options='--step --progress --atomic -v --verbose -h --help' most=2 ;;
     board) options='--steps -h --help' most=0 ;;
     help) options='' most=1 ;;
     esac
@@ -148,6 +151,7 @@ _pcompact_value() {
     'import --progress') _pcompact_words auto always never ;;
     'compare --progress') _pcompact_words auto always never ;;
     'generate --progress') _pcompact_words auto always never ;;
+    'reduce --progress') _pcompact_words auto always never ;;
     *) compopt +o default +o bashdefault 2>/dev/null ;;
     esac
 }
@@ -171,7 +175,7 @@ _pcompact() {
     elif [[ -z $ended && $current = -* ]]; then
         _pcompact_words $left
     elif [[ -z $command || $command = help && $count = 0 ]]; then
-        _pcompact_words collect verify summary order map text assemble record replay timeline upgrade import compare generate board help
+        _pcompact_words collect verify summary order map text assemble record replay timeline upgrade import compare generate reduce board help
     elif ((count < most)); then
         _pcompact_files
     elif [[ -z $ended ]]; then
