@@ -1,17 +1,17 @@
 /* The C interface of pcompact, a sliding full collection whose program is proved.
  *
  * Link libpcompact.a. It takes memory by malloc, unless the program defines the three functions of heap.c: any allocator that
- * aligns to 16 bytes and that several threads may call can stand in its place. Each call is proved but pcompact_cut,
- * pcompact_is_live, pcompact_redirect_each, pcompact_work_yielding, pcompact_mark_each and pcompact_slots_by, those in place, those
- * of several threads over lent words, and those of slides and segments: these are a few lines of C, here, in in_place.c, in lent.c,
- * in slide.c and in segments.c, around calls that are proved, and are only tested.
+ * aligns to 16 bytes and that several threads may call can stand in its place. Each call is proved but those that
+ * are inline here, those in place, those of several threads over lent words, and those of slides and segments: these are a few
+ * lines of C, here, in in_place.c, in lent.c, in slide.c and in segments.c, around calls that are proved, and are only tested.
  *
  * No fault loses a heap: this is proved, but for words that are lent or slid, of which it is only tested. What a caller mixes up
  * of a collection or slide by several threads is fault 12.
  *
  * No call starts a thread or waits, and none keeps state but behind the handles of a collection or slide, so several threads may
  * be in calls at once, each with memory and handles of its own. No call may be made from a signal handler, or in a forked child of
- * a process with threads. */
+ * a process with threads. A thread sanitizer sees the library's copies of words and not the atomic steps between them, as it isn't
+ * built with one: tests/c/threads.supp silences that. */
 #ifndef PCOMPACT_H
 #define PCOMPACT_H
 
@@ -199,6 +199,10 @@ uint64_t pcompact_new_address(pcompact_handle *handle, uint64_t address);
  * the handle has no plan. Takes no memory. `handle` isn't null. */
 uint64_t pcompact_next_object(pcompact_handle *handle, uint64_t from);
 
+/* The address at which the live object begins that has the word at this address, its first or not, by the handle of a slide's plan.
+ * UINT64_MAX if no live object has such a word, or the handle has no plan. Takes no memory. `handle` isn't null. */
+uint64_t pcompact_object_over(pcompact_handle *handle, uint64_t address);
+
 /* Whether a live object has the word at this address, by such a handle. */
 static inline bool pcompact_is_live(pcompact_handle *handle, uint64_t address) {
     return pcompact_new_address(handle, address) != UINT64_MAX;
@@ -282,7 +286,8 @@ uint32_t pcompact_end_in_place(pcompact_handle *handles, size_t worker_count, pc
  * they are. It reads and changes nothing inside of them, needs no header, and keeps their order; all references are the host's to
  * redirect. First a plan says where words will go, while they are still the host's; then its threads slide them, in place.
  *
- * A slide begins as all zeros; afterwards only the library writes its fields, and nobody copies it. One call at a time uses it. */
+ * A slide begins as all zeros, but for `words` where the host likes; afterwards only the library writes its fields, and nobody
+ * copies it. One call at a time uses it. */
 typedef struct pcompact_slide {
     pcompact_handle plan;    /* its marking, if it has one, and then its plan, until the slide begins */
     uint64_t *words;         /* the heap */
@@ -340,7 +345,8 @@ uint32_t pcompact_forget_slide(pcompact_slide *slide);
  * a number of references. The size is in units, of which a word has 2 ^ `size_unit`: an object has size + `size_more` units,
  * header included, rounded down to words. So sizes in words have `size_unit` 0 and `size_more` 1, or 0 if they include the header;
  * sizes in bytes have 3, and 15, which rounds up, or 7. References follow the header, and `modes` says of each type how many there
- * are: 0 none, 1 all words, 2 as many as the header says.
+ * are: 0 none, 1 all words, 2 as many as the header says. A type that is left out has mode 0, so what only its references lead to
+ * is lost; a header of 0 is an object of `size_more` units. A weak reference is none of these, and the host redirects it.
  *
  * The word `base` + 2 ^ `unit` * a leads to the object whose header is at address a: where machine addresses lead to first fields,
  * `base` is the heap's start plus 8, plus a tag. A word that is none of these for an address of the heap leads nowhere, and is
@@ -349,7 +355,7 @@ uint32_t pcompact_forget_slide(pcompact_slide *slide);
  * The last two say how a filler would be written, and no call for C writes one: `filler_tag` 0 will do, and for `filler_less` what
  * `size_more` is, or 8 where that is 15. What is wrong with a layout is fault 18, whose `field` says which rule it breaks:
  *   1 the size is a field of a header: both numbers are below 64, and their sum is at most 64
- *   2 it can count the units of 2147483648 words
+ *   2 it can count the units of 2147483648 words, whatever the heap has: 32 bits and more for words, 35 for bytes
  *   3 the type is a field of a header, of at most 8 bits
  *   4 the number of references is a field of a header
  *   5 no mode is above 2
@@ -450,6 +456,11 @@ static inline size_t pcompact_segment_handles(size_t segment_count, size_t worke
     return (segment_count / 8 + 2) * 8 * worker_count;
 }
 
+/* A worker's handle of a segment: once plans are shared, for pcompact_next_object and others that take the handle of a plan. */
+static inline pcompact_handle *pcompact_segment_handle(const pcompact_segments *heap, size_t segment, size_t worker) {
+    return &heap->handles[pcompact_segment_handles(heap->segment_count, worker) + segment];
+}
+
 /* The words of a segment and its objects, as pcompact_plan has them: addresses count from the segment's first word. */
 typedef struct pcompact_segment {
     uint64_t *words;
@@ -475,6 +486,40 @@ uint32_t pcompact_redirect_segments(const pcompact_segments *heap, size_t worker
 
 /* The same of slots that lie apart, each of which a pointer leads to, and none twice: sooner than a call for each. */
 uint32_t pcompact_redirect_segments_each(const pcompact_segments *heap, size_t worker, uint64_t *const *slots, size_t slot_count);
+
+/* Slots that lie apart, which a worker gathers and redirects once there are enough. It begins with the heap, the worker and a count
+ * of 0. */
+typedef struct pcompact_batch {
+    const pcompact_segments *heap;
+    size_t worker;
+    size_t count;
+    uint64_t *slots[PCOMPACT_SLOTS];
+} pcompact_batch;
+
+/* Redirects the slots of a batch, which are none then: after the last one is gathered, too. Returns what
+ * pcompact_redirect_segments does. */
+static inline uint32_t pcompact_redirect_batch(pcompact_batch *batch) {
+    size_t count = batch->count;
+    batch->count = 0;
+    return pcompact_redirect_segments_each(batch->heap, batch->worker, batch->slots, count);
+}
+
+/* Gathers those of these slots whose bits of `mask` are `tag`, as of all that may lead to a word; all for 0 and 0. None is gathered
+ * twice. Returns what pcompact_redirect_batch does, or PCOMPACT_SETTLED while there are few. */
+static inline uint32_t pcompact_gather(pcompact_batch *batch, uint64_t *slots, size_t slot_count, uint64_t mask, uint64_t tag) {
+    uint32_t how = PCOMPACT_SETTLED;
+    size_t count = batch->count;
+    for (size_t i = 0; i < slot_count; i++) {
+        batch->slots[count] = &slots[i];
+        count += (slots[i] & mask) == tag;
+        if (count < PCOMPACT_SLOTS) continue;
+        batch->count = count;
+        how |= pcompact_redirect_batch(batch);
+        count = 0;
+    }
+    batch->count = count;
+    return how;
+}
 
 /* Begins the slides that haven't begun, by all workers, whose shares of plans are forgotten. Returns the first fault, which is one
  * of pcompact_begin_slide: then the segments before have begun, and another call begins the others. */
