@@ -10,9 +10,11 @@ returns-in_ok-write_image_buffered-in-None-clause-image g c =
     let requested = c.in_ok-imported-in-None.ensures.requested in
     let shown : List ℕ = string_bytes c.in_ok-text-in-None.text in
     let begins : IsLineOf image shown = record {
-      valid = requested.valid; rooted = requested.rooted;
+      valid = requested.valid;
+      rooted = requested.rooted;
       figures = c.in_ok-imported-in-None.imported.figures;
-      counted = requested.figures; printed = c.in_ok-text-in-None.ensures;
+      counted = requested.figures;
+      printed = c.in_ok-text-in-None.ensures;
     } in
     (c.in_ok-imported-in-None.imported, requested, subst (λ r. IsTextOf image r shown) (sym c.in-None.is) (line_alone image shown begins), c.in_ok-write_image_buffered-in-None.ensures.text)
 
