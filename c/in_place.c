@@ -4,7 +4,7 @@
 #include "lent.h"
 
 /* Limits by the names that they have in crates/object_heap/src/limits.rt, and faults of docs/FORMATS.md. */
-enum { MAX_REGION_LOG_V3 = 20, MAX_REGIONS_V3 = 1 << 20, MEMORY = 11, WORKERS = 12 };
+enum { MAX_REGION_LOG_V3 = 20, MAX_REGIONS_V3 = 1 << 20, LENGTH = 4, MEMORY = 11, WORKERS = 12 };
 
 /* How many regions a heap has: none where they don't divide its words or are more than any heap has, or where its live addresses
  * or roots are more than its words. To no regions and no list a lent call answers the fault of such sizes, 3 or 4. */
@@ -85,6 +85,27 @@ pcompact_fault pcompact_begin_in_place_rooted(uint64_t *words, size_t word_count
                                               pcompact_regions *regions) {
     return begin_by(pcompact_begin_lent_rooted_at, words, word_count, roots, root_count, settings, handles, worker_count,
                     regions);
+}
+
+pcompact_fault pcompact_begin_check_in_place(uint64_t *words, size_t word_count, const uint64_t *live, size_t live_count,
+                                             pcompact_settings settings, pcompact_handle *handles, size_t worker_count,
+                                             pcompact_regions *regions) {
+    return begin_by(pcompact_begin_check_at, words, word_count, live, live_count, settings, handles, worker_count, regions);
+}
+
+pcompact_fault pcompact_begin_check_in_place_rooted(uint64_t *words, size_t word_count, const uint64_t *roots, size_t root_count,
+                                                    pcompact_settings settings, pcompact_handle *handles, size_t worker_count,
+                                                    pcompact_regions *regions) {
+    return begin_by(pcompact_begin_check_rooted_at, words, word_count, roots, root_count, settings, handles, worker_count, regions);
+}
+
+pcompact_fault pcompact_begin_checked_in_place(pcompact_handle *handles, size_t worker_count, pcompact_regions *regions) {
+    if (!regions->at) return (pcompact_fault){.number = WORKERS};
+    pcompact_fault fault =
+        pcompact_begin_checked_at(handles, worker_count, regions->at, regions->count, place_of_listed(regions->at));
+    /* After any other fault the handles have nothing, and the words are the host's again. */
+    if (fault.number != 0 && fault.number != WORKERS && fault.number != LENGTH) free_list(regions);
+    return fault;
 }
 
 uint32_t pcompact_end_in_place(pcompact_handle *handles, size_t worker_count, pcompact_regions *regions, uint64_t *list,

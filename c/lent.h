@@ -17,6 +17,15 @@ pcompact_fault pcompact_begin_lent_at(pcompact_words *words, size_t region_count
 pcompact_fault pcompact_begin_lent_rooted_at(pcompact_words *words, size_t region_count, const uint64_t *roots, size_t root_count,
                                              lent_settings settings, pcompact_handle *handles, size_t worker_count);
 
+pcompact_fault pcompact_begin_check_at(pcompact_words *words, size_t region_count, const uint64_t *live, size_t live_count,
+                                       lent_settings settings, pcompact_handle *handles, size_t worker_count);
+
+pcompact_fault pcompact_begin_check_rooted_at(pcompact_words *words, size_t region_count, const uint64_t *roots, size_t root_count,
+                                              lent_settings settings, pcompact_handle *handles, size_t worker_count);
+
+pcompact_fault pcompact_begin_checked_at(pcompact_handle *handles, size_t worker_count, pcompact_words *words, size_t region_count,
+                                         uint64_t place);
+
 pcompact_answer pcompact_end_lent_at(pcompact_handle *handles, size_t worker_count, pcompact_words *words, size_t region_count,
                                      uint64_t *list, size_t list_count, uint64_t place);
 

@@ -70,7 +70,7 @@ for caller in slide segments; do
     build "$caller" -pthread -Itests/c tests/c/{"$caller",opaque,refusing_heap}.c
     build_c "$caller-raced" -g -fsanitize=thread -pthread -Itests/c tests/c/{"$caller",opaque,refusing_heap}.c
 done
-for caller in threads lent_threads in_place; do
+for caller in threads lent_threads in_place checked; do
     build "$caller" -pthread -Itests/c tests/c/{"$caller",refusing_heap}.c
     build_c "$caller-raced" -g -fsanitize=thread -pthread -Itests/c tests/c/{"$caller",refusing_heap}.c
 done
@@ -92,7 +92,7 @@ for caller in slide segments marking; do
     run "$caller" 100
     try env TSAN_OPTIONS=suppressions=tests/c/threads.supp "$room/$caller-raced" 100
 done
-for caller in threads lent_threads in_place; do
+for caller in threads lent_threads in_place checked; do
     run "$caller"
     try env TSAN_OPTIONS=suppressions=tests/c/threads.supp "$room/$caller-raced"
 done

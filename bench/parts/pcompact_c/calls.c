@@ -4,6 +4,7 @@
  *     calls copy IMAGE OUT THREADS ROUNDS    each round collects a fresh heap by a call that copies it or, if THREADS isn't 0, by
  *                                            so many threads over a copy; the last one's image is written
  *     calls place IMAGE OUT THREADS ROUNDS   the same in place
+ *     calls check IMAGE OUT THREADS ROUNDS   the same in place, where threads also check the heap
  *     calls lent IMAGE OUT THREADS ROUNDS    the same over lent regions
  *     calls small WAY ROUNDS                 each round collects a heap of 64 words with a live list, and one with roots */
 #define _POSIX_C_SOURCE 199309L
@@ -135,7 +136,7 @@ typedef struct times {
     uint64_t begun, ended;
 } times;
 
-/* The work of the last collection by threads. */
+/* The work of the last collection by threads, behind its check. */
 static times work_times;
 
 /* Starts all workers once a begin had this fault. The calling thread is one of them. */
@@ -172,6 +173,18 @@ static uint32_t collect_in_place_by(heap *it, pcompact_words *parts, size_t thre
     return pcompact_end_in_place(handles, thread_count, &regions, it->list, of->count, answer);
 }
 
+static uint32_t collect_checked_by(heap *it, pcompact_words *parts, size_t thread_count, pcompact_answer *answer) {
+    const pcompact_heap *of = &it->shape;
+    pcompact_handle handles[MAX_THREADS] = {{false, NULL}};
+    pcompact_regions regions = {NULL, 0};
+    (void)parts;
+    work_by((of->version == 1 ? pcompact_begin_check_in_place : pcompact_begin_check_in_place_rooted)(
+                it->words, of->word_count, it->list, of->count, of->settings, handles, thread_count, &regions),
+            handles, thread_count);
+    work_by(pcompact_begin_checked_in_place(handles, thread_count, &regions), handles, thread_count);
+    return pcompact_end_in_place(handles, thread_count, &regions, it->list, of->count, answer);
+}
+
 static uint32_t collect_lent_by(heap *it, pcompact_words *parts, size_t thread_count, pcompact_answer *answer) {
     const pcompact_heap *of = &it->shape;
     pcompact_handle handles[MAX_THREADS] = {{false, NULL}};
@@ -190,6 +203,7 @@ static const struct way {
 } ways[] = {
     {"copy", collect_copy, collect_copy_by},
     {"place", collect_in_place, collect_in_place_by},
+    {"check", collect_in_place, collect_checked_by},
     {"lent", collect_lent, collect_lent_by},
 };
 
@@ -263,7 +277,7 @@ static void time_small(const struct way *by, size_t rounds) {
 int main(int count, char **words) {
     bool is_small = count == 4 && strcmp(words[1], "small") == 0;
     const struct way *by = is_small ? way_of(words[2]) : count == 6 ? way_of(words[1]) : NULL;
-    if (!by) fail("usage: calls copy|place|lent IMAGE OUT THREADS ROUNDS | calls small copy|place|lent ROUNDS");
+    if (!by) fail("usage: calls copy|place|check|lent IMAGE OUT THREADS ROUNDS | calls small copy|place|check|lent ROUNDS");
     if (is_small) {
         time_small(by, strtoul(words[3], NULL, 10));
     } else {

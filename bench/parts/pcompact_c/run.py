@@ -13,10 +13,10 @@ processes of their own. For each heap it prints the least times of
   and the collection alone;
 - the phases of the plain program, all but reading and writing files.
 
-Then the same by four threads of a C program, each with a handle, which share the work between begin and end: beside one call,
-and beside four workers inside `pcompact`; the calls on a heap of 64 words; and the size of the library without symbols. The
-lines say which goals are kept. Ends with status 1 where one is missed, or where two programs left different images. A second
-run with the same scratch folder builds only what has changed.
+Then the same by four threads of a C program, each with a handle, which share the work between begin and end, and in place also
+the check before: beside one call, and beside four workers inside `pcompact`; the calls on a heap of 64 words; and the size of
+the library without symbols. The lines say which goals are kept. Ends with status 1 where one is missed, or where two programs
+left different images. A second run with the same scratch folder builds only what has changed.
 
 All processes get huge pages from the C library as the script `pcompact` asks for them, unless the environment sets
 GLIBC_TUNABLES: empty, it shows what a host feels that asks for none.
@@ -47,6 +47,8 @@ LIBRARY_SIZE = 1_000_000
 KINDS = {1: "live list", 2: "roots"}
 # The ways of `calls.c`, and what they are called here.
 WAYS = {"place": "in place", "lent": "lent", "copy": "by copy"}
+# Those that threads have, and the one call beside which each is shown.
+BY_THREADS = {**{way: (words, way) for way, words in WAYS.items()}, "check": ("in place, the check too", "place")}
 THREADS = 4
 # The phases of a collection by threads. All of them share the second, and one has the others.
 PHASES = ("begin", "work", "end")
@@ -115,13 +117,14 @@ class Programs:
         ways = {way: lambda way=way: self.by_c(way, 0) for way in WAYS}
         jobs = {**ways, "inside": lambda: self.by_pcompact(1), "plain": self.by_plain}
         if self.has_processors:
-            jobs |= {f"{way} threads": lambda way=way: self.by_c(way, THREADS) for way in WAYS}
+            jobs |= {f"{way} threads": lambda way=way: self.by_c(way, THREADS) for way in BY_THREADS}
             jobs["workers"] = lambda: self.by_pcompact(THREADS)
         return jobs
 
     def compare(self) -> None:
         """Ends the process where two programs left different images of one heap."""
-        first, *others = (*(f"by-{way}" for way in WAYS), "by-plain", "compacted")
+        ways = BY_THREADS if self.has_processors else WAYS
+        first, *others = (*(f"by-{way}" for way in ways), "by-plain", "compacted")
         for other in others:
             if not filecmp.cmp(self.folder / first, self.folder / other, shallow=False):
                 sys.exit(f"{first} and {other} differ; the files are in {self.folder}")
@@ -167,11 +170,11 @@ def tell_heap(heap: Heap, least: dict[str, dict[str, float]], goals: Goals) -> N
 
 def tell_threads(least: dict[str, dict[str, float]], goals: Goals) -> None:
     workers = least["workers"]["whole"]
-    for way, words in WAYS.items():
+    for way, (words, one_call) in BY_THREADS.items():
         found = least[f"{way} threads"]
         threads = found["whole"]
         phases = ", ".join(f"{phase} {milliseconds(found[phase])}" for phase in PHASES)
-        print(f"  {THREADS} threads {words}, {milliseconds(threads)} ({phases}): to one call {threads / least[way]['whole']:.2f}; to "
+        print(f"  {THREADS} threads {words}, {milliseconds(threads)} ({phases}): to one call {threads / least[one_call]['whole']:.2f}; to "
               f"{THREADS} workers inside pcompact, {milliseconds(workers)}, {goals.verdict(threads / workers, BY_FOUR)}", flush=True)
 
 

@@ -6,3 +6,4 @@ pub mod Parts
 pub mod Slots
 pub mod PlannedSlides
 pub mod Slides
+pub mod LentChecks

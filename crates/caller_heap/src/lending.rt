@@ -48,7 +48,7 @@ pub fn image_of_lent(
 }
 
 /// Lends all of these words, a region each, as parts with a copy of these live addresses or roots. Fails as [`lend_all`].
-fn lend_parts(
+pub(crate) fn lend_parts(
     alloc: Global,
     version: Version,
     settings: HeapSettings,
@@ -56,6 +56,7 @@ fn lend_parts(
     tail: &[u64],
 ) -> Result<UncheckedParts, Fault>
     ensures version { IfOk result (λ parts. parts.version ≡ version) }
+    ensures settings { IfOk result (λ parts. (parts.region_log ≡ settings.region_log) × (parts.allowance ≡ settings.allowance)) }
     ensures regions { IfOk result (λ parts. parts.regions.items ≡ map words_in words.old) }
     ensures whole { IfOk result (λ parts. AreBlocks parts.region_log parts.regions.items) }
     ensures tail { IfOk result (λ parts. parts.tail.items ≡ tail.now) }

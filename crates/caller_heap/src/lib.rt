@@ -10,6 +10,7 @@
 mod collection;
 mod heap_words;
 mod lending;
+mod lent_check;
 mod lent_collection;
 mod lent_slide;
 mod part;
@@ -21,6 +22,7 @@ mod slots;
 pub use collection::{collect_words, put_tail, put_words};
 pub use heap_words::front_of;
 pub use lending::image_of_lent;
+pub use lent_check::{begin_check_lent, check_of_lent, end_check_lent};
 pub use lent_collection::{begin_lent, collect_lent_words, end_lent_words, suits};
 pub use lent_slide::{SlideBack, begin_slide, end_slide};
 pub use part::{Origin, Part, boxed_parts};

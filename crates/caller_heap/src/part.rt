@@ -23,7 +23,7 @@ use crate::slots::{SlotCoding, redirect_slots};
 use coded_marking::{CodedHeap, Marking};
 use coded_redirection::redirect_objects;
 use collector::{NewPlace, Progress, Refusal, Session, Share};
-use heap_image::{Fault, Image};
+use heap_image::{CheckShare, Fault, Image};
 use object_coding::ObjectCoding;
 use scheduler::MAX_WORKERS;
 use std::alloc::{AllocError, Global};
@@ -39,42 +39,51 @@ pub enum Origin {
     Lent(u64),
     /// The same, of opaque objects.
     Slid(u64),
+    /// The host's own, lent in a list at this place, while their live objects are being checked.
+    Checked(u64),
     /// It has none yet: a slide of opaque objects is planned, or its objects are being marked.
     Planned,
 }
 
-/// A worker's share in a collection, and where that has its words; or a planned slide of opaque objects; or a marking, after
-/// which one is planned.
+/// A worker's share in a collection, and where that has its words; or one in the check before it; or a planned slide of opaque
+/// objects; or a marking, after which one is planned.
 #[derive(Drop)]
 pub struct Part {
-    /// `None` of a marking or a planned slide, or while the part waits for its share.
+    /// `None` of a check, a marking or a planned slide, or while the part waits for its share.
     pub share: Option<Share>,
+    pub check: Option<CheckShare>,
     pub slide: Option<PlannedSlide>,
     pub marking: Option<Marking>,
     pub origin: Origin,
 }
 
 impl Part {
-    /// Lets the worker fill regions that are ready, at most `turns`, as [`Share::work`]. Without a share there are none.
+    /// Lets the worker fill regions that are ready, at most `turns`, as [`Share::work`], or check objects, as
+    /// [`CheckShare::work`]. Without a share there are none.
     pub fn work(&mut self, turns: u64) -> Progress
         ensures image { option_map image_of self.new.share ≡ option_map image_of self.old.share }
         ensures held { option_map held_of self.new.share ≡ option_map held_of self.old.share }
+        ensures check { self.new.check ≡ self.old.check }
         ensures origin { self.new.origin ≡ self.old.origin }
     {
         match &mut self.share {
             Some(share) => share.work(turns),
-            None => Progress::Settled,
+            None => check_by(&self.check, turns),
         }
     }
 
-    /// Lets the worker fill regions until all are settled, as [`Share::work_all`].
+    /// Lets the worker fill regions until all are settled, as [`Share::work_all`], or check objects until all are taken.
     pub fn work_all(&mut self)
         ensures image { option_map image_of self.new.share ≡ option_map image_of self.old.share }
         ensures held { option_map held_of self.new.share ≡ option_map held_of self.old.share }
+        ensures check { self.new.check ≡ self.old.check }
         ensures origin { self.new.origin ≡ self.old.origin }
     {
-        if let Some(share) = &mut self.share {
-            share.work_all();
+        match &mut self.share {
+            Some(share) => share.work_all(),
+            None => {
+                check_by(&self.check, u64::MAX);
+            }
         }
     }
 
@@ -196,10 +205,13 @@ impl Part {
         }
     }
 
-    /// Counts the share as presented to end its session.
+    /// Counts the share as presented to end its session, or its check.
     pub fn count_in(&self) {
         if let Some(share) = &self.share {
             share.count_in();
+        }
+        if let Some(check) = &self.check {
+            check.count_in();
         }
     }
 
@@ -208,21 +220,26 @@ impl Part {
         if let Some(share) = &self.share {
             share.count_out();
         }
-    }
-
-    /// Whether it has a share, exactly `shares` shares are counted, and the session has no other.
-    pub fn are_all_counted(&self, shares: usize) -> bool {
-        match &self.share {
-            Some(share) => share.are_all_counted(shares),
-            None => false,
+        if let Some(check) = &self.check {
+            check.count_out();
         }
     }
 
-    /// Whether it has a share of a session with as many regions.
+    /// Whether it has a share, exactly `shares` shares are counted, and the session or the check has no other.
+    pub fn are_all_counted(&self, shares: usize) -> bool {
+        match (&self.share, &self.check) {
+            (Some(share), _) => share.are_all_counted(shares),
+            (None, Some(check)) => check.are_all_counted(shares),
+            (None, None) => false,
+        }
+    }
+
+    /// Whether it has a share of a session, or of a check, with as many regions.
     pub fn has_regions(&self, regions: usize) -> bool {
-        match &self.share {
-            Some(share) => share.regions() as usize == regions,
-            None => false,
+        match (&self.share, &self.check) {
+            (Some(share), _) => share.regions() as usize == regions,
+            (None, Some(check)) => check.regions() == regions,
+            (None, None) => false,
         }
     }
 
@@ -233,6 +250,14 @@ impl Part {
             Some(share) => suits(share, regions, numbers),
             None => false,
         }
+    }
+}
+
+/// Checks objects by a share in a check, if there is one.
+fn check_by(check: &Option<CheckShare>, turns: u64) -> Progress {
+    match check {
+        Some(check) if !check.work(turns) => Progress::TurnsUsed,
+        _ => Progress::Settled,
     }
 }
 
@@ -278,10 +303,12 @@ pub(crate) fn empty_parts(
     let mut boxes = Vec::with_capacity(alloc, workers as usize)?;
     for _ in 0..workers {
         let share = None;
+        let check = None;
         let slide = None;
         let marking = None;
         let part = Part {
             share,
+            check,
             slide,
             marking,
             origin,

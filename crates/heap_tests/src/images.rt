@@ -3,10 +3,11 @@
 mod buffered;
 mod devices;
 mod failing_once;
-mod from_regions;
+pub(crate) mod from_regions;
 mod length_causes;
 mod refusals;
 pub(crate) mod roots;
+mod shared_checks;
 mod stores;
 pub(crate) mod texts;
 mod upgrading;

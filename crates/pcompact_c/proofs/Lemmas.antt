@@ -5,3 +5,4 @@ pub mod Kept
 pub mod Lent
 pub mod Numbered
 pub mod Shares
+pub mod Checks

@@ -8,3 +8,4 @@ pub mod Places
 pub mod Strays
 pub mod Verdicts
 pub mod Slides
+pub mod Checks

@@ -8,9 +8,12 @@ ghost use Rattle.object_heap.specs.HeapImage.{HeapImage, IsValid, region_count};
 ghost use Rattle.heap_image.specs.ImageText.{text};
 ghost use Rattle.caller_heap.specs.HeapWords.{heap_bytes};
 ghost use Rattle.caller_heap.specs.Lent.{AreBack, HoldImage, IsGone, IsNotLent, IsWhyLentKept, heap_in};
+ghost use Rattle.heap_image.specs.SharedCheck.{UncheckedHeap};
+ghost use Rattle.caller_heap.specs.LentChecks.{IsCheckPartOf};
 ghost use Rattle.caller_heap.specs.Parts.{IsPartOf};
 ghost use Rattle.caller_heap.specs.declared.part.Origin.{Origin};
 ghost use Rattle.caller_heap.specs.declared.part.Origin.TheVariants.{Copied, Lent};
+ghost use Rattle.pcompact_c.specs.Checks.{IsCheckHandleOf};
 ghost use Rattle.pcompact_c.specs.Faults.{IsFaultFor, IsOf};
 ghost use Rattle.pcompact_c.specs.Handles.{AreReady, IsHandleOf, IsWhyNotBegun};
 
@@ -24,7 +27,7 @@ use raw_region::HostWords;
 use std::alloc::Global;
 
 /// The most workers of a collection.
-const MOST_WORKERS: usize = 64;
+pub(crate) const MOST_WORKERS: usize = 64;
 
 /// What the words of a heap that a host lends don't say.
 #[repr(C)]
@@ -189,7 +192,7 @@ fn deal(alloc: Global, image: Image, handles: &mut [PcompactHandle]) -> Pcompact
 
 /// Gives each handle a worker's part in the compaction of an image whose words were lent from these, in a list at this
 /// place. After fault 11 all is as it was, and after fault 12 the handles are.
-fn deal_lent(
+pub(crate) fn deal_lent(
     alloc: Global,
     image: Image,
     place: u64,
@@ -222,6 +225,8 @@ pub(crate) fn hand_out(mut parts: Vec<Box<Part, Global>>, handles: &mut [Pcompac
         → All (IsHandleOf image origin) handles.new }
     ensures held { (held : Option (List (List ℕ))) → All (λ part. option_map held_of part.value.share ≡ Some held) parts.items
         → All (λ h. held_in h ≡ Some held) handles.new }
+    ensures checks { (heap : UncheckedHeap) → (origin : Origin) → All (λ part. IsCheckPartOf heap origin part.value) parts.items
+        → All (IsCheckHandleOf heap origin) handles.new }
 {
     for handle in handles.iter_mut() {
         match parts.pop() {

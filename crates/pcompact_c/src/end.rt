@@ -150,6 +150,7 @@ fn with_share(
     };
     let Part {
         share,
+        check: _,
         slide: _,
         marking: _,
         origin: _,

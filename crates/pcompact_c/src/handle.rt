@@ -56,6 +56,7 @@ impl PcompactHandle {
     ghost use Rattle.collector.specs.Slides.{IsNextObject};
     ghost use Rattle.caller_heap.specs.Markings.{IsMarkedFrom, IsStoppedAt};
     ghost use Rattle.caller_heap.specs.Slots.{redirected_slot};
+    ghost use Rattle.pcompact_c.specs.Checks.{checked_in};
     ghost use Rattle.pcompact_c.specs.Handles.{image_in, origin_in};
     ghost use Rattle.pcompact_c.specs.Markings.{marking_in};
     ghost use Rattle.pcompact_c.specs.Places.{IsNewAddress};
@@ -312,6 +313,7 @@ impl PcompactHandle {
     pub(crate) fn work(&mut self, alloc: Global, turns: u64) -> Option<Progress>
         ensures image { image_in self.new ≡ image_in self.old }
         ensures held { held_in self.new ≡ held_in self.old }
+        ensures check { checked_in self.new ≡ checked_in self.old }
         ensures origin { origin_in self.new ≡ origin_in self.old }
         ensures worked { MatchOption result (self.old.2 ≡ None) (λ _. is_some self.old.2 ≡ true) }
     {
@@ -325,6 +327,7 @@ impl PcompactHandle {
     pub(crate) fn work_all(&mut self, alloc: Global) -> Option<()>
         ensures image { image_in self.new ≡ image_in self.old }
         ensures held { held_in self.new ≡ held_in self.old }
+        ensures check { checked_in self.new ≡ checked_in self.old }
         ensures origin { origin_in self.new ≡ origin_in self.old }
         ensures worked { MatchOption result (self.old.2 ≡ None) (λ _. is_some self.old.2 ≡ true) }
     {

@@ -11,6 +11,7 @@ ghost use Rattle.std.specs.Prelude.{◌≡◌};
 
 mod answer;
 mod begin;
+mod check;
 mod collect;
 mod decode;
 mod encode;

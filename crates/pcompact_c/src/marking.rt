@@ -62,6 +62,7 @@ fn empty_marking(alloc: Global, words: u64) -> Result<Box<Part, Global>, Fault>
     }
     let part = Part {
         share: None,
+        check: None,
         slide: None,
         marking: Some(Marking::new(alloc, words)?),
         origin: Origin::Planned,

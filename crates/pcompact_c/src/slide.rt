@@ -11,6 +11,7 @@ ghost use Rattle.caller_heap.specs.Lent.{AreBack, IsGone, words_in};
 ghost use Rattle.caller_heap.specs.Slides.{HoldSlid, IsWhyNotSlid, planned_in};
 ghost use Rattle.caller_heap.specs.declared.part.Origin.TheVariants.{Slid};
 ghost use Rattle.pcompact_c.specs.Answers.{IsSummaryOf};
+ghost use Rattle.pcompact_c.specs.Checks.{checked_in};
 ghost use Rattle.pcompact_c.specs.Faults.{IsFaultFor};
 ghost use Rattle.pcompact_c.specs.Handles.{Handle, AreFrom, AreReady, AreSpent, HaveNoParts, HaveSameParts, IsWhyNotEnded, share_in};
 ghost use Rattle.pcompact_c.specs.Slides.{IsLast, IsSlidHandle, IsWhyNotPlanned, plan_in};
@@ -93,6 +94,7 @@ pub(crate) fn planned(
     let slide = Slide::plan(alloc, &objects)?;
     let part = Part {
         share: None,
+        check: None,
         slide: Some(PlannedSlide::new(slide)),
         marking: None,
         origin: Origin::Planned,
@@ -145,6 +147,7 @@ fn share_plan(alloc: Global, part: &mut Box<Part, Global>) -> Result<Box<Part, G
     put_planned(part, planned);
     let other = Part {
         share: None,
+        check: None,
         slide: Some(other?),
         marking: None,
         origin: Origin::Planned,
@@ -157,11 +160,13 @@ fn share_plan(alloc: Global, part: &mut Box<Part, Global>) -> Result<Box<Part, G
 pub extern "C" fn pcompact_forget(alloc: Global, plan: &mut PcompactHandle) -> u32
     ensures gone { result ≡ 0 → plan.new.2 ≡ None }
     ensures kept { 0 < result → plan.new.2 ≡ plan.old.2 }
+    ensures share { IfSome (share_in plan.old) (λ _. result ≡ 12) }
+    ensures check { IfSome (checked_in plan.old) (λ _. result ≡ 12) }
 {
     let Some(part) = plan.leave(alloc) else {
         return 0;
     };
-    if part.share.is_none() {
+    if part.share.is_none() && part.check.is_none() {
         return 0;
     }
     plan.enter(part);
@@ -308,8 +313,8 @@ fn end_slid(
     }
 }
 
-/// Whether the slide of these handles has `regions` regions.
-fn have_regions(alloc: Global, handles: &mut [PcompactHandle], regions: usize) -> bool
+/// Whether the slide, or the check, of these handles has `regions` regions.
+pub(crate) fn have_regions(alloc: Global, handles: &mut [PcompactHandle], regions: usize) -> bool
     requires { 1 ≤ length handles.old }
     ensures { HaveSameParts handles.old handles.new }
 {

@@ -12,7 +12,7 @@ use std::alloc::Global;
 use std::test::Fail;
 
 /// The parts of the base heap, which were checked.
-fn base_parts(alloc: Global) -> Result<ImageParts, Fail>
+pub(crate) fn base_parts(alloc: Global) -> Result<ImageParts, Fail>
     ensures { IfOk result (λ parts. AreBlocks parts.region_log parts.regions.items) }
 {
     let text = base_text(alloc)?;

@@ -23,6 +23,8 @@ use Rattle.claim_board.proofs.regions.region_board.RegionBoard.TheSendSync as bo
 use Rattle.claim_board.proofs.desk.Seat.TheSendSync as seat
 use Rattle.heap_image.proofs.image.ImageParts.TheSendSync as parts
 use Rattle.heap_image.specs.contracts.image.ImageParts as ImageParts
+use Rattle.heap_image.specs.contracts.check_share.CheckShare as CheckShare
+use Rattle.heap_image.specs.contracts.shared_check.SharedCheck as SharedCheck
 use Rattle.collector.specs.contracts.slide.Slide as Slide
 use Rattle.ready_queues.specs.contracts.ready.Thief as Thief
 use Rattle.ready_queues.proofs.ready.Thief.TheSendSync as thief
@@ -191,6 +193,16 @@ owner_send = search (crosses, sendable, slide_send, slide_sync) depth 60 fits 20
 planned_send : IsSend PlannedSlide.the_row
 planned_send = search (crosses, sendable, owner_send) depth 60 fits 20000
 
+-- the check that shares have in common: regions, bits, and slots of pieces
+checked_send : IsSend SharedCheck.the_row
+checked_send = search (crosses, sendable, slot.the_send, region.the_send) depth 60 fits 20000
+
+checked_sync : IsSync SharedCheck.the_row
+checked_sync = search (crosses, sendable, slot.the_sync, region.the_sync) depth 60 fits 20000
+
+check_send : IsSend CheckShare.the_row
+check_send = search (crosses, sendable, checked_send, checked_sync) depth 60 fits 20000
+
 -- a marking, which has its bits and its stack
 marking_send : IsSend Marking.the_row
 marking_send = search (crosses, sendable) depth 60 fits 20000
@@ -198,5 +210,5 @@ marking_send = search (crosses, sendable) depth 60 fits 20000
 pub part_send : IsSend Part.the_row
 part_send =
     let T = Part.the_type in
-    let all : AllSend (declared.fields T) = (search (crosses, sendable, share_send) depth 60 fits 20000, (search (crosses, sendable, planned_send) depth 60 fits 20000, (search (crosses, sendable, marking_send) depth 60 fits 20000, (origin.the_field_send, tt)))) in
+    let all : AllSend (declared.fields T) = (search (crosses, sendable, share_send) depth 60 fits 20000, (search (crosses, sendable, check_send) depth 60 fits 20000, (search (crosses, sendable, planned_send) depth 60 fits 20000, (search (crosses, sendable, marking_send) depth 60 fits 20000, (origin.the_field_send, tt))))) in
     recorded_send (Struct (declared.shape T)) T.D T.to T.to_one (struct_send (declared.shape T) all)
