@@ -8,7 +8,7 @@ use Rattle.caller_heap.specs.Lent.{Lent}
 use Rattle.caller_heap.specs.LentChecks.{HoldBlocks}
 use Rattle.caller_heap.specs.declared.part.Origin.{Origin}
 use Rattle.caller_heap.specs.declared.part.Part.{Part}
-use Rattle.pcompact_c.specs.Handles.{Handle, HaveNoParts, HaveSameParts, origin_in}
+use Rattle.pcompact_c.specs.Handles.{Handle, HaveNoParts, origin_in}
 
 -- the heap that is checked by a handle's part
 abbrev pub checked_in : Handle → Option UncheckedHeap
