@@ -182,9 +182,27 @@ pcompact_fault pcompact_begin_in_place_rooted(uint64_t *words, size_t word_count
                                               pcompact_settings settings, pcompact_handle *handles, size_t worker_count,
                                               pcompact_regions *regions);
 
+/* The same collections where the workers also check the heap. Each begin finds the live objects and gives each handle a worker's
+ * part in their check, for pcompact_work or pcompact_work_all; from here to the end only the library uses the words. Once no call
+ * uses the handles any more, pcompact_begin_checked_in_place ends the check, and begins the collection by the same handles and
+ * regions, which the workers then do by the same calls. Faults of the begin of a check: those of the other begins but 7 to 9.
+ * After a fault all is as it was. */
+pcompact_fault pcompact_begin_check_in_place(uint64_t *words, size_t word_count, const uint64_t *live, size_t live_count,
+                                             pcompact_settings settings, pcompact_handle *handles, size_t worker_count,
+                                             pcompact_regions *regions);
+
+pcompact_fault pcompact_begin_check_in_place_rooted(uint64_t *words, size_t word_count, const uint64_t *roots, size_t root_count,
+                                                    pcompact_settings settings, pcompact_handle *handles, size_t worker_count,
+                                                    pcompact_regions *regions);
+
+/* Checks what no worker has checked, and begins the collection. Faults: 12 if these aren't all handles and the regions of one begin
+ * of a check: then all is as it was, and the check goes on. 7 to 9 as the other begins have them, or 11 if memory runs out: then no
+ * handle is held, and the words are the host's as they were. */
+pcompact_fault pcompact_begin_checked_in_place(pcompact_handle *handles, size_t worker_count, pcompact_regions *regions);
+
 /* What pcompact_work returns. */
 enum {
-    PCOMPACT_SETTLED = 0,    /* all regions are filled, or all slots redirected */
+    PCOMPACT_SETTLED = 0,    /* all regions are filled, all objects to check taken, or all slots redirected */
     PCOMPACT_TURNS_USED = 1, /* the turns are used up */
     PCOMPACT_NONE_READY = 2, /* no region is ready: another worker may make some ready, and want this processor for it */
     PCOMPACT_NOT_HELD = 5    /* the handle isn't held */
@@ -241,12 +259,12 @@ static inline uint32_t pcompact_redirect_each(pcompact_handle *handle, uint64_t 
     return how;
 }
 
-/* Fills regions that are ready by the worker of a handle, at most `turns`. Returns how far the work has come. Takes no memory
- * and never waits. `handle` isn't null. */
+/* Fills regions that are ready by the worker of a handle, at most `turns`, or checks objects, at most `turns` times 2,048. Returns
+ * how far the work has come. Takes no memory and never waits. `handle` isn't null. */
 uint32_t pcompact_work(pcompact_handle *handle, uint64_t turns);
 
-/* The same until all regions are filled; spins while none is ready, so it wants a processor for each worker. Returns
- * PCOMPACT_SETTLED or PCOMPACT_NOT_HELD. */
+/* The same until all regions are filled, or all objects taken; spins while no region is ready, so it wants a processor for each
+ * worker. Returns PCOMPACT_SETTLED or PCOMPACT_NOT_HELD. */
 uint32_t pcompact_work_all(pcompact_handle *handle);
 
 /* The same for workers that may have fewer processors: while no region is ready it calls `yield`, such as sched_yield, which gives
